@@ -1,0 +1,283 @@
+-- Building from a stripped file and its own header gives the file exactly when it is numbered this way and its free control positions are blank.
+use Prim.Native.Nat.{ℕ, zero, suc, _+_, _/_}
+use native.Mathlib.Omega.{arith}
+use mathlib.Core.Bool.{Bool, true, false}
+use mathlib.Core.List.{[], List, _∷_, _++_, map, head-eq-of-cons-eq, tail-eq-of-cons-eq}
+use mathlib.Core.Logic.{_↔_}
+use mathlib.Core.Path.{_≡_, refl, sym, ap, _∙_, subst, ap₂}
+use lib.ListN.{length, take, drop, length-append, length-take, length-drop}
+use lib.Seq.{length-take-le}
+use Rattle.paper.specs.declared.record.Before.{Before}
+use Rattle.paper.specs.declared.record.Before.the-variants.{Nothing, Between, Opened, Flagged, Inside, Ended}
+use Rattle.paper.specs.declared.record.Kind.{Kind}
+use Rattle.paper.specs.declared.record.Kind.the-variants.{FileHeader, BatchHeader, Individual, Additional, BatchControl, FileControl, Other}
+use Rattle.paper.specs.declared.rules.Rules.{Rules}
+use Rattle.paper.specs.Answers.{accepted}
+use Rattle.paper.specs.Checks.{fine}
+use Rattle.paper.specs.Fields.{bytes, field, is}
+use Rattle.paper.specs.Kinds.{kindOf}
+use Rattle.paper.specs.Controls.{Tally, plus, withIndividual, withAdditional}
+use Rattle.paper.specs.Reading.{Counts, nothingCounted, counted, State, start, flag, standing, next, fields, parts, recordsOf, reading}
+use Rattle.paper.specs.Writing.{blanks, joined, numbered, batchControlOf, fileControlOf, owed, settled, owedBefore, settledBefore, ending, withControls, closing}
+use Rattle.paper.specs.Trays.{trayRecords, batchesAfter, individualsAfter, numberedBy, numbering, build, zeroed, marked, stripped, strip}
+use Rattle.paper.specs.Demands.{AsBuilt}
+use Rattle.paper.proofs.Lists.{Sized, sized-append, records-joined, length-spelled, length-numbered, kind-numbered}
+use Rattle.paper.proofs.Sums.{own}
+use Rattle.paper.proofs.Accepted.{Reads, control-read, total-read, Follows, file-begins, batch-opens, file-ends, first-individual, its-additional, next-individual, batch-closes, judged-facts, first-header, after-last, accepted-facts}
+use Rattle.paper.proofs.Normal.{normal, normals, numbered-zeroed, withIndividual-numbered, tidy-normal, normal-tidy, control-normal, total-normal}
+
+-- ---- the reader's counts and the writer's, side by side
+
+-- between batches the reader has seen the control that the writer still owes
+record Beside (a c : Counts) : Type 0 where
+  place : a .place ≡ settled (c .batches) c .place
+  batches : a .batches ≡ settled (c .batches) c .batches
+  closed : a .closed ≡ settled (c .batches) c .closed
+
+-- inside a batch they have counted the same
+record Within (a c : Counts) : Type 0 where
+  place : a .place ≡ c .place
+  batches : a .batches ≡ c .batches
+  batch : a .batch ≡ c .batch
+  closed : a .closed ≡ c .closed
+  some : (n : ℕ) × (c .batches ≡ suc n)
+  header : c .header ≡ numbered (c .batches) (a .header)
+  long : length (a .header) ≡ 94
+
+abbrev Link : Before → Counts → Counts → Type 0
+Link Nothing a c = ⊥
+Link Between a c = Beside a c
+Link Opened a c = Within a c
+Link Flagged a c = Within a c
+Link Inside a c = Within a c
+Link Ended a c = ⊥
+
+-- what the writer owes
+abbrev owes : Before → Counts → List (List ℕ)
+owes Nothing c = []
+owes Between c = owed (c .batches) c
+owes Opened c = []
+owes Flagged c = []
+owes Inside c = []
+owes Ended c = []
+
+abbrev bodies : List (List ℕ) → List (List ℕ)
+bodies rs = map (drop 2) (stripped rs)
+
+abbrev Rebuilt : Rules → List (List ℕ) → Type 0
+Rebuilt rules rs = (s : State) (c : Counts) (n : ℕ) (w : Before) → s .before ≡ w → Link w (s .counts) c → Reads rules s rs
+    → withControls c (numbering (c .batches) n (bodies rs)) ≡ owes w c ++ normals (c .batches) n rs
+
+link-flag : (x : Bool) (a c : Counts) → Within a c → Link (flag x) a c
+unfolding flag
+link-flag true a c i = i
+link-flag false a c i = i
+
+owes-flag : (x : Bool) (c : Counts) → owes (flag x) c ≡ []
+unfolding flag
+owes-flag true c = refl
+owes-flag false c = refl
+
+kind-zeroed : (r : List ℕ) → length r ≡ 94 → kindOf (zeroed r) ≡ kindOf r
+unfolding zeroed kindOf
+kind-zeroed [] l = absurd (omega arith)
+kind-zeroed (x ∷ r) l = refl
+
+settled-batches : (n : ℕ) (c : Counts) → settled n c .batches ≡ c .batches
+unfolding settled counted
+settled-batches zero c = refl
+settled-batches (suc n) c = refl
+
+module _ (rules : Rules) (r : List ℕ) (rs : List (List ℕ)) (l : length r ≡ 94) (ih : Rebuilt rules rs) (s : State) (c : Counts) (n : ℕ) where
+  -- a record of the tray is written under its number
+  numbered-kind : (m : ℕ) → kindOf (numbered m r) ≡ kindOf r
+  numbered-kind m = kind-numbered m r (omega arith)
+
+  step5 : kindOf r ≡ BatchHeader → Beside (s .counts) c → Reads rules (next s r) rs → withControls c (numbering (c .batches) n (bodies (r ∷ rs))) ≡ owed (c .batches) c ++ normals (c .batches) n (r ∷ rs)
+  unfolding withControls numbering numberedBy batchesAfter individualsAfter stripped marked normals normal owedBefore settledBefore next counted standing
+  step5 k i h =
+      let m : ℕ = suc (c .batches) in
+      let d : Counts = counted BatchHeader (settled (c .batches) c) (numbered m r) in
+      let q : d .batches ≡ m = ap suc (settled-batches (c .batches) c) in
+      let link : Within (next s r .counts) d = rw k (record {
+        place = ap (λ (x : ℕ). x + 1) (i .place);
+        batches = ap suc (i .batches);
+        batch = refl;
+        closed = i .closed;
+        some = (settled (c .batches) c .batches, refl);
+        header = ap (λ (x : ℕ). numbered x r) (sym q);
+        long = l;
+      }) in
+      rw (k, kind-zeroed r l, k, numbered-zeroed m r l, numbered-kind m, k)
+      (ap (λ (x : List (List ℕ)). owed (c .batches) c ++ numbered m r ∷ x)
+      (subst (λ (x : ℕ). withControls d (numbering x n (bodies rs)) ≡ normals x n rs) q (ih (next s r) d n Opened (ap (λ (x : Kind). standing x r) k) link h)))
+
+  step6 : kindOf r ≡ Individual → Within (s .counts) c → Reads rules (next s r) rs → withControls c (numbering (c .batches) n (bodies (r ∷ rs))) ≡ normals (c .batches) n (r ∷ rs)
+  unfolding withControls numbering numberedBy batchesAfter individualsAfter stripped marked normals normal owedBefore settledBefore next counted standing
+  step6 k i h =
+      let d : Counts = counted Individual c (numbered (suc n) r) in
+      let x : Bool = is (field r 79 79) "1" in
+      let link : Within (next s r .counts) d = rw k (record {
+        place = ap (λ (x : ℕ). x + 1) (i .place);
+        batches = i .batches;
+        batch = ap (λ (t : Tally). withIndividual t r) (i .batch) ∙ sym (withIndividual-numbered (c .batch) (suc n) r l);
+        closed = i .closed;
+        some = i .some;
+        header = i .header;
+        long = i .long;
+      }) in
+      rw (k, kind-zeroed r l, k, numbered-zeroed (suc n) r l, numbered-kind (suc n), k)
+      (ap (λ (y : List (List ℕ)). numbered (suc n) r ∷ y)
+      (ih (next s r) d (suc n) (flag x) (ap (λ (y : Kind). standing y r) k) (link-flag x (next s r .counts) d link) h ∙ ap (λ (o : List (List ℕ)). o ++ normals (c .batches) (suc n) rs) (owes-flag x d)))
+
+  step7 : kindOf r ≡ Additional → Within (s .counts) c → Reads rules (next s r) rs → withControls c (numbering (c .batches) n (bodies (r ∷ rs))) ≡ normals (c .batches) n (r ∷ rs)
+  unfolding withControls numbering numberedBy batchesAfter individualsAfter stripped marked normals normal owedBefore settledBefore next counted standing
+  step7 k i h =
+      let d : Counts = counted Additional c (numbered n r) in
+      let link : Within (next s r .counts) d = rw k (record {
+        place = ap (λ (x : ℕ). x + 1) (i .place);
+        batches = i .batches;
+        batch = ap withAdditional (i .batch);
+        closed = i .closed;
+        some = i .some;
+        header = i .header;
+        long = i .long;
+      }) in
+      rw (k, kind-zeroed r l, k, numbered-zeroed n r l, numbered-kind n, k)
+      (ap (λ (y : List (List ℕ)). numbered n r ∷ y) (ih (next s r) d n Inside (ap (λ (y : Kind). standing y r) k) link h))
+
+  step8 : kindOf r ≡ BatchControl → Within (s .counts) c → fields BatchControl rules s r ≡ fine → Reads rules (next s r) rs → withControls c (numbering (c .batches) n (bodies (r ∷ rs))) ≡ normals (c .batches) n (r ∷ rs)
+  unfolding stripped marked normals batchesAfter individualsAfter next counted standing fields owed settled
+  step8 k i f h =
+      let m : ℕ = i .some .0 in
+      let e : c .batches ≡ suc m = i .some .1 in
+      let link : Beside (next s r .counts) c = rw (k, e) (record {
+        place = ap (λ (x : ℕ). x + 1) (i .place);
+        batches = i .batches ∙ e;
+        closed = ap₂ plus (i .closed) (i .batch);
+      }) in
+      let own : owed (c .batches) c ≡ normal BatchControl (c .batches) n r ∷ [] =
+      ap (λ (m : ℕ). owed m c) e
+      ∙ ap (λ (x : List ℕ). x ∷ []) (ap₂ batchControlOf (i .header) (sym (i .batch)) ∙ control-normal r l (c .batches) n (s .counts .header) (s .counts .batch) (i .long) k (control-read (s .counts .header) (s .counts .batch) r f)) in
+      rw k (ih (next s r) c n Between (ap (λ (y : Kind). standing y r) k) link h ∙ ap (λ (o : List (List ℕ)). o ++ normals (c .batches) n rs) own)
+
+  step9 : kindOf r ≡ FileControl → Beside (s .counts) c → fields FileControl rules s r ≡ fine → rs ≡ [] → withControls c (numbering (c .batches) n (bodies (r ∷ rs))) ≡ owed (c .batches) c ++ normals (c .batches) n (r ∷ rs)
+  unfolding withControls numbering stripped marked normals ending fields
+  step9 k i f e =
+      rw (k, e) (ap (λ (x : List ℕ). owed (c .batches) c ++ x ∷ [])
+      (ap₂ (λ (x : ℕ) (t : Tally). fileControlOf (x + 1) (settled (c .batches) c .batches) t) (sym (i .place)) (sym (i .closed))
+      ∙ ap (λ (x : ℕ). fileControlOf (s .counts .place + 1) x (s .counts .closed)) (sym (i .batches))
+      ∙ total-normal r l (c .batches) n (s .counts .place + 1) (s .counts .batches) (s .counts .closed) k (total-read (s .counts .place + 1) (s .counts .batches) (s .counts .closed) r f)))
+
+rebuilt : (rules : Rules) (rs : List (List ℕ)) → Sized 94 rs → Rebuilt rules rs
+unfolding next standing
+rebuilt rules [] z s c n w e link h = absurd (subst (λ (x : Before). Link x (s .counts) c) (sym e ∙ h) link)
+rebuilt rules (r ∷ rs) z s c n w e link h =
+    let j = judged-facts rules s r (h .0) in
+    let o : Follows w (kindOf r) = subst (λ (x : Before). Follows x (kindOf r)) e (j .order) in
+    go w (kindOf r) o refl link (j .fields) (rebuilt rules rs (z .1))
+  where
+    go : (w : Before) (k : Kind) → Follows w k → kindOf r ≡ k → Link w (s .counts) c → fields k rules s r ≡ fine → Rebuilt rules rs
+        → withControls c (numbering (c .batches) n (bodies (r ∷ rs))) ≡ owes w c ++ normals (c .batches) n (r ∷ rs)
+    go w k file-begins q i f ih = absurd i
+    go w k batch-opens q i f ih = step5 rules r rs (z .0) ih s c n q i (h .1)
+    go w k first-individual q i f ih = step6 rules r rs (z .0) ih s c n q i (h .1)
+    go w k next-individual q i f ih = step6 rules r rs (z .0) ih s c n q i (h .1)
+    go w k its-additional q i f ih = step7 rules r rs (z .0) ih s c n q i (h .1)
+    go w k batch-closes q i f ih = step8 rules r rs (z .0) ih s c n q i f (h .1)
+    go w k file-ends q i f ih = step9 rules r rs (z .0) ih s c n q i f (after-last rules (next s r) rs (ap (λ (x : Kind). standing x r) q) (h .1))
+
+-- ---- a file is its own normal form exactly when it is as built
+
+tidy-normals : (rs : List (List ℕ)) (b n : ℕ) → Sized 94 rs → AsBuilt b n rs → normals b n rs ≡ rs
+unfolding normals
+tidy-normals [] b n z t = refl
+tidy-normals (r ∷ rs) b n z t = λ i. tidy-normal (kindOf r) b n r (z .0) (t .0) i ∷ tidy-normals rs (batchesAfter (kindOf r) b) (individualsAfter (kindOf r) n) (z .1) (t .1) i
+
+normals-tidy : (rs : List (List ℕ)) (b n : ℕ) → Sized 94 rs → normals b n rs ≡ rs → AsBuilt b n rs
+unfolding normals
+normals-tidy [] b n z e = tt
+normals-tidy (r ∷ rs) b n z e = (
+  normal-tidy (kindOf r) b n r (z .0) (head-eq-of-cons-eq e),
+  normals-tidy rs (batchesAfter (kindOf r) b) (individualsAfter (kindOf r) n) (z .1) (tail-eq-of-cons-eq e),
+)
+
+-- ---- the theorem
+
+length-zeroed : (r : List ℕ) → length r ≡ 94 → length (zeroed r) ≡ 94
+unfolding zeroed
+length-zeroed r l = length-append (take 87 r) (bytes "0000000") ∙ omega (arith, length-take-le 87 r (omega arith))
+
+pub stripped-sized : (rs : List (List ℕ)) → Sized 94 rs → Sized 96 (stripped rs)
+unfolding stripped marked
+stripped-sized [] z = tt
+stripped-sized (r ∷ rs) z = sized-append 96 (marked (kindOf r) r) (stripped rs) (go (kindOf r)) (stripped-sized rs (z .1))
+  where
+    go : (k : Kind) → Sized 96 (marked k r)
+    go FileHeader = tt
+    go BatchHeader = (omega (arith, length-zeroed r (z .0)), tt)
+    go Individual = (omega (arith, length-zeroed r (z .0)), tt)
+    go Additional = (omega (arith, length-zeroed r (z .0)), tt)
+    go BatchControl = tt
+    go FileControl = tt
+    go Other = tt
+
+normals-sized : (rs : List (List ℕ)) (b n : ℕ) → Sized 94 rs → Sized 94 (normals b n rs)
+unfolding normals normal blanks
+normals-sized [] b n z = tt
+normals-sized (r ∷ rs) b n z = (go (kindOf r), normals-sized rs (batchesAfter (kindOf r) b) (individualsAfter (kindOf r) n) (z .1))
+  where
+    l : length r ≡ 94
+    l = z .0
+
+    go : (k : Kind) → length (normal k b n r) ≡ 94
+    go FileHeader = l
+    go BatchHeader = length-numbered (suc b) r (omega arith)
+    go Individual = length-numbered (suc n) r (omega arith)
+    go Additional = length-numbered n r (omega arith)
+    go BatchControl = simp (length-append, length-spelled, length-take, length-drop, l)
+    go FileControl = simp (length-append, length-take, l)
+    go Other = l
+
+-- a file of records, the first of which is a header
+module _ (rules : Rules) (head : List ℕ) (rs : List (List ℕ)) (z : Sized 94 (head ∷ rs)) (h : Reads rules start (head ∷ rs)) where
+  k : kindOf head ≡ FileHeader
+  k = first-header rules head rs h
+
+  -- what is built from the stripped file is the file's normal form
+  build-strip : build head (strip (joined (head ∷ rs))) ≡ joined (head ∷ normals 0 0 rs)
+  unfolding build strip closing recordsOf trayRecords stripped start next nothingCounted counted standing marked owed settled
+  build-strip =
+      let c : Counts = counted FileHeader nothingCounted head in
+      let link : Beside (next start head .counts) c = rw k (record { place = refl; batches = refl; closed = refl }) in
+      ap (λ (l : List (List ℕ)). joined (head ∷ withControls c (numbering 0 0 (map (drop 2) (parts 96 (length (joined (stripped l)) / 96) (joined (stripped l))))))) (records-joined 94 (head ∷ rs) (omega arith) z)
+      ∙ ap (λ (x : Kind). joined (head ∷ withControls c (numbering 0 0 (map (drop 2) (parts 96 (length (joined (marked x head ++ stripped rs)) / 96) (joined (marked x head ++ stripped rs))))))) k
+      ∙ ap (λ (l : List (List ℕ)). joined (head ∷ withControls c (numbering 0 0 (map (drop 2) l)))) (records-joined 96 (stripped rs) (omega arith) (stripped-sized rs (z .1)))
+      ∙ ap (λ (l : List (List ℕ)). joined (head ∷ l)) (rebuilt rules rs (z .1) (next start head) c 0 Between (ap (λ (x : Kind). standing x head) k) link (h .1))
+
+  -- it is the file exactly when the file is as built
+  back-records : (build head (strip (joined (head ∷ rs))) ≡ joined (head ∷ rs)) ↔ AsBuilt 0 0 rs
+  unfolding recordsOf
+  back-records = (there, λ t. build-strip ∙ ap (λ (l : List (List ℕ)). joined (head ∷ l)) (tidy-normals rs 0 0 (z .1) t))
+    where
+      there : build head (strip (joined (head ∷ rs))) ≡ joined (head ∷ rs) → AsBuilt 0 0 rs
+      there e =
+          let q : joined (head ∷ normals 0 0 rs) ≡ joined (head ∷ rs) = sym build-strip ∙ e in
+          normals-tidy rs 0 0 (z .1) (tail-eq-of-cons-eq
+          (sym (records-joined 94 (head ∷ normals 0 0 rs) (omega arith) (z .0, normals-sized rs 0 0 (z .1)))
+          ∙ ap recordsOf q
+          ∙ records-joined 94 (head ∷ rs) (omega arith) z))
+
+  -- the same of the file whose records they are
+  pub back-file : (file : List ℕ) → joined (head ∷ rs) ≡ file → recordsOf file ≡ head ∷ rs → (build head (strip file) ≡ file) ↔ AsBuilt 0 0 (recordsOf file)
+  unfolding batchesAfter individualsAfter
+  back-file file w e =
+      let i : (build head (strip file) ≡ file) ↔ AsBuilt 0 0 rs = subst (λ (f : List ℕ). (build head (strip f) ≡ f) ↔ AsBuilt 0 0 rs) w back-records in
+      rw (e, k) ((λ q. (tt, i .0 q)), λ t. i .1 (t .1))
+
+-- building from a stripped file and its own header gives the file exactly when it is numbered this way and its free control positions are blank
+pub build-strips-back : (rules : Rules) (file : List ℕ) → reading rules file ≡ accepted → (build (take 94 file) (strip file) ≡ file) ↔ AsBuilt 0 0 (recordsOf file)
+build-strips-back rules file h =
+    let a = accepted-facts rules file h in
+    let e = a .first .1 in
+    back-file rules (take 94 file) (a .first .0) (rw e at (a .sized)) (rw e at (a .reads)) file (rw e at (a .whole)) e

@@ -1,0 +1,159 @@
+-- 209 is answered exactly for an identifier already accepted from this origin; and what the answer to a presentation depends on.
+use Prim.Native.Nat.{ℕ, zero, suc, _+_, _*_, _≤_, _<_}
+use native.Mathlib.Omega.{arith}
+use mathlib.Core.Bool.{Bool, true, false, cond, _||_}
+use mathlib.Core.List.{[], List, _∷_, _++_, map}
+use mathlib.Core.Path.{_≡_, refl, sym, ap, _∙_, subst, ap₂}
+use lib.Dec.{eqb, leb, T, leb→le, le→leb, eqb→eq}
+use lib.ListN.{length, getD, take, drop, set, length-replicate, length-set, getD-replicate}
+use lib.Seq.{length-take-le, getD-set-same, getD-set-other, getD-take}
+use Rattle.paper.specs.declared.record.Kind.{Kind}
+use Rattle.paper.specs.declared.rules.Rules.{Rules}
+use Rattle.paper.specs.Answers.{Said, accepted, refused}
+use Rattle.paper.specs.Checks.{fine}
+use Rattle.paper.specs.Fields.{field, among, every, digit, capital}
+use Rattle.paper.specs.Records.{fileHeader}
+use Rattle.paper.specs.Reading.{start, fields, reading}
+use Rattle.paper.specs.Sessions.{Session, newSession, originOf, identifierIf, identifierOf, keyOf, unlessUsed, answerTo, sessionAfter, presenting}
+use Rattle.paper.specs.Demands.{withAccepted, Came, opened, presented, identifiersFrom}
+use Rattle.paper.proofs.Tests.{and-l, or-go, T-of, of-T, within-range, eqb-true, eqb-false, eqb-ne}
+use Rattle.paper.proofs.Accepted.{also-l, also-r, need-T, Reads, judged-facts, first-header, accepted-facts}
+use Rattle.paper.proofs.Figures.{entity-lt, opened-by}
+use Rattle.paper.proofs.Own.{presented-new}
+
+-- ---- an identifier is one of 36
+
+header-identifier : (rules : Rules) (r : List ℕ) → fileHeader rules r ≡ fine → T (every (λ b. digit b || capital b) (field r 34 34))
+unfolding fileHeader
+header-identifier rules r h = search (also-l, also-r, need-T) depth 12
+
+one-of : (r : List ℕ) (i : ℕ) → i < length r → take 1 (drop i r) ≡ getD r i 0 ∷ []
+one-of [] i h = absurd (omega arith)
+one-of (x ∷ r) zero h = refl
+one-of (x ∷ r) (suc i) h = one-of r i (omega arith)
+
+-- the header of an accepted file
+pub header-read : (rules : Rules) (file : List ℕ) → reading rules file ≡ accepted → fileHeader rules (take 94 file) ≡ fine
+unfolding fields
+header-read rules file h =
+    let a = accepted-facts rules file h in
+    let rd : Reads rules start (take 94 file ∷ a .first .0) = rw (a .first .1) at (a .reads) in
+    subst (λ (k : Kind). fields k rules start (take 94 file) ≡ fine) (first-header rules (take 94 file) (a .first .0) rd) (judged-facts rules start (take 94 file) (rd .0) .fields)
+
+identifier-byte : (b : ℕ) → T (digit b || capital b) → identifierIf (leb b 57) b < 36
+unfolding digit capital identifierIf
+identifier-byte b t = go (leb b 57) refl
+  where
+    go : (x : Bool) → leb b 57 ≡ x → identifierIf x b < 36
+    go true e = let l : b ≤ 57 = leb→le b 57 (T-of e) in omega arith
+    go false e = or-go (digit b) (capital b) t
+        (λ d. let r = within-range 48 57 b d in let z : true ≡ false = sym (of-T (leb b 57) (le→leb b 57 (r .1))) ∙ e in let w : _≡_ {A = ℕ} 0 1 = cc in omega arith)
+        (λ c. let r = within-range 65 90 b c in omega arith)
+
+pub identifier-lt : (rules : Rules) (file : List ℕ) → reading rules file ≡ accepted → identifierOf file < 36
+unfolding identifierOf every
+identifier-lt rules file h =
+    let a = accepted-facts rules file h in
+    let l : length (take 94 file) ≡ 94 = length-take-le 94 file (omega (arith, a .long)) in
+    let byte : field (take 94 file) 34 34 ≡ getD file 33 0 ∷ [] = one-of (take 94 file) 33 (omega (arith, l)) ∙ ap (λ (x : ℕ). x ∷ []) (getD-take 94 file 33 0 (omega arith)) in
+    identifier-byte (getD file 33 0) (and-l (digit (getD file 33 0) || capital (getD file 33 0)) true (rw byte at (header-identifier rules (take 94 file) (header-read rules file h))))
+
+abbrev AllIdentified : List (List ℕ) → Type 0
+AllIdentified [] = Unit {0}
+AllIdentified (f ∷ fs) = (identifierOf f < 36) × AllIdentified fs
+
+identified-snoc : (fs : List (List ℕ)) (f : List ℕ) → AllIdentified fs → identifierOf f < 36 → AllIdentified (fs ++ f ∷ [])
+identified-snoc [] f a l = (l, tt)
+identified-snoc (x ∷ fs) f a l = (a .0, identified-snoc fs f (a .1) l)
+
+identified-came : {s : Session} {files : List (List ℕ)} → Came s files → AllIdentified files
+unfolding presenting answerTo withAccepted
+identified-came (opened date currency entities) = tt
+identified-came (presented {s} {files} c file) = go (answerTo s file) refl (identified-came c)
+  where
+    go : (a : Said) → answerTo s file ≡ a → AllIdentified files → AllIdentified (withAccepted a files file)
+    go (refused n place) e h = h
+    go accepted e h = identified-snoc files file h (identifier-lt (s .rules) file (presented-new (reading (s .rules) file) _ e .0))
+
+-- ---- the marks are the keys of the files accepted
+
+pub key-lt : (file : List ℕ) → identifierOf file < 36 → keyOf file < 18000
+unfolding keyOf originOf
+key-lt file l = omega (arith, entity-lt (field file 15 22))
+
+among-snoc : (ks : List ℕ) (k j : ℕ) → among (ks ++ k ∷ []) j ≡ (eqb j k || among ks j)
+unfolding among
+among-snoc [] k j = refl
+among-snoc (x ∷ ks) k j = ap (λ (b : Bool). eqb j x || b) (among-snoc ks k j) ∙ swap (eqb j x) (eqb j k) (among ks j)
+  where
+    swap : (x y z : Bool) → (x || (y || z)) ≡ (y || (x || z))
+    swap true true z = refl
+    swap true false z = refl
+    swap false y z = refl
+
+pub used-length : {s : Session} {files : List (List ℕ)} → Came s files → length (s .used) ≡ 18000
+unfolding newSession presenting sessionAfter
+used-length (opened date currency entities) = opened-by (λ s. length (s .used) ≡ 18000) (λ d c es. length-replicate 18000 false) date currency entities
+used-length (presented {s} c file) = go (answerTo s file) (used-length c)
+  where
+    go : (a : Said) → length (s .used) ≡ 18000 → length (sessionAfter a s file .used) ≡ 18000
+    go (refused n place) h = h
+    go accepted h = length-set (s .used) (keyOf file) true ∙ h
+
+marks-came : {s : Session} {files : List (List ℕ)} → Came s files → (k : ℕ) → k < 18000 → getD (s .used) k false ≡ among (map keyOf files) k
+unfolding newSession presenting sessionAfter withAccepted among answerTo
+marks-came (opened date currency entities) k l =
+    opened-by (λ s. getD (s .used) k false ≡ false) (λ d c es. getD-replicate 18000 k false false l) date currency entities
+marks-came (presented {s} {files} c file) k l = go (answerTo s file) refl (marks-came c k l)
+  where
+    key : ℕ
+    key = keyOf file
+
+    mark : (b : Bool) → eqb k key ≡ b → key < 18000 → getD (s .used) k false ≡ among (map keyOf files) k → getD (set (s .used) key true) k false ≡ (b || among (map keyOf files) k)
+    mark true e m h = let q : k ≡ key = eqb→eq k key (T-of e) in rw q (getD-set-same (s .used) key true false (omega (arith, used-length c)))
+    mark false e m h = getD-set-other (s .used) key k true false (eqb-ne k key e) ∙ h
+
+    go : (a : Said) → answerTo s file ≡ a → getD (s .used) k false ≡ among (map keyOf files) k → getD (sessionAfter a s file .used) k false ≡ among (map keyOf (withAccepted a files file)) k
+    go (refused n place) e h = h
+    go accepted e h =
+        let m : key < 18000 = key-lt file (identifier-lt (s .rules) file (presented-new (reading (s .rules) file) _ e .0)) in
+        mark (eqb k key) refl m h ∙ sym (ap (λ (ks : List ℕ). among ks k) (map-snoc files) ∙ among-snoc (map keyOf files) key k)
+      where
+        map-snoc : (fs : List (List ℕ)) → map keyOf (fs ++ file ∷ []) ≡ map keyOf fs ++ key ∷ []
+        map-snoc [] = refl
+        map-snoc (f ∷ fs) = ap (λ (ks : List ℕ). keyOf f ∷ ks) (map-snoc fs)
+
+-- ---- a key is an origin and an identifier
+
+keys-identifiers : (o i : ℕ) (fs : List (List ℕ)) → i < 36 → AllIdentified fs → among (map keyOf fs) (o * 36 + i) ≡ among (identifiersFrom o fs) i
+unfolding identifiersFrom among keyOf
+keys-identifiers o i [] l a = refl
+keys-identifiers o i (f ∷ fs) l a = go (eqb o (originOf f)) refl (keys-identifiers o i fs l (a .1))
+  where
+    same-origin : o ≡ originOf f → (b : Bool) → eqb i (identifierOf f) ≡ b → eqb (o * 36 + i) (originOf f * 36 + identifierOf f) ≡ b
+    same-origin q true e = let w : i ≡ identifierOf f = eqb→eq i (identifierOf f) (T-of e) in rw (q, w) (eqb-true (originOf f * 36 + identifierOf f))
+    same-origin q false e = let n = eqb-ne i (identifierOf f) e in rw q (eqb-false (originOf f * 36 + i) (originOf f * 36 + identifierOf f) (λ w. n (omega arith)))
+
+    go : (b : Bool) → eqb o (originOf f) ≡ b → among (map keyOf fs) (o * 36 + i) ≡ among (identifiersFrom o fs) i
+        → (eqb (o * 36 + i) (originOf f * 36 + identifierOf f) || among (map keyOf fs) (o * 36 + i)) ≡ among (cond b (identifierOf f ∷ identifiersFrom o fs) (identifiersFrom o fs)) i
+    go true e h = ap₂ _||_ (same-origin (eqb→eq o (originOf f) (T-of e)) (eqb i (identifierOf f)) refl) h
+    go false e h =
+        let n = eqb-ne o (originOf f) e in
+        rw (eqb-false (o * 36 + i) (originOf f * 36 + identifierOf f) (λ w. n (omega (arith, a .0)))) h
+
+-- demand 2: presenting answers as the reading does, and 209 exactly where the identifier was accepted from this origin before
+pub presenting-exactly : {s : Session} {files : List (List ℕ)} → Came s files → (file : List ℕ)
+    → (presenting s file) .answer ≡ unlessUsed (reading (s .rules) file) (among (identifiersFrom (originOf file) files) (identifierOf file))
+unfolding presenting answerTo unlessUsed keyOf
+presenting-exactly {s} {files} c file = go (reading (s .rules) file) refl
+  where
+    go : (a : Said) → reading (s .rules) file ≡ a → unlessUsed a (getD (s .used) (keyOf file) false) ≡ unlessUsed a (among (identifiersFrom (originOf file) files) (identifierOf file))
+    go (refused n place) e = refl
+    go accepted e =
+        let l = identifier-lt (s .rules) file e in
+        ap (unlessUsed accepted) (marks-came c (keyOf file) (key-lt file l) ∙ keys-identifiers (originOf file) (identifierOf file) files l (identified-came c))
+
+-- demand 3: the answer depends on the file, the session's date, currency and roster, and the identifiers already accepted from the file's origin
+pub answer-depends : {s t : Session} {fs gs : List (List ℕ)} → Came s fs → Came t gs → (file : List ℕ) → s .rules ≡ t .rules
+    → identifiersFrom (originOf file) fs ≡ identifiersFrom (originOf file) gs → (presenting s file) .answer ≡ (presenting t file) .answer
+answer-depends c d file r i = presenting-exactly c file ∙ rw (r, i) (sym (presenting-exactly d file))

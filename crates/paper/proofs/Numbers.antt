@@ -1,0 +1,54 @@
+-- Every fault has a number of its own, so that what an answer says is the answer.
+use Prim.Native.Nat.{ℕ}
+use mathlib.Core.Path.{_≡_, refl, sym, ap, _∙_}
+use mathlib.Core.Bool.{cond}
+use lib.Dec.{eqb}
+use Rattle.paper.specs.declared.answer.Fault.{Fault}
+use Rattle.paper.specs.declared.answer.Fault.the-variants.{Length, Format, Amount, Additional, Counter, Date, Reserved, Account, Reference, Information, Currency, Roster, Room, Tray, Entity, Identifier}
+use Rattle.paper.specs.declared.answer.Answer.{Answer}
+use Rattle.paper.specs.declared.answer.Answer.the-variants.{Accepted, Refused}
+use Rattle.paper.specs.Answers.{Said, accepted, refused, numberOf, said}
+
+-- the fault of a number
+named : ℕ → Fault
+named n =
+    cond (eqb n 201) Length (cond (eqb n 17) Format (cond (eqb n 19) Amount (cond (eqb n 25) Additional
+    (cond (eqb n 27) Counter (cond (eqb n 75) Date (cond (eqb n 77) Reserved (cond (eqb n 78) Account
+    (cond (eqb n 79) Reference (cond (eqb n 87) Information (cond (eqb n 203) Currency (cond (eqb n 204) Roster
+    (cond (eqb n 206) Room (cond (eqb n 207) Tray (cond (eqb n 208) Entity Identifier))))))))))))))
+
+named-number : (f : Fault) → named (numberOf f) ≡ f
+unfolding named
+named-number Length = refl
+named-number Format = refl
+named-number Amount = refl
+named-number Additional = refl
+named-number Counter = refl
+named-number Date = refl
+named-number Reserved = refl
+named-number Account = refl
+named-number Reference = refl
+named-number Information = refl
+named-number Currency = refl
+named-number Roster = refl
+named-number Room = refl
+named-number Tray = refl
+named-number Entity = refl
+named-number Identifier = refl
+
+pub own-number : (f g : Fault) → numberOf f ≡ numberOf g → f ≡ g
+own-number f g h = sym (named-number f) ∙ ap named h ∙ named-number g
+
+-- the answer that says it
+answering : Said → Answer
+answering accepted = Accepted
+answering (refused n place) = Refused (named n) place
+
+answering-said : (a : Answer) → answering (said a) ≡ a
+unfolding answering
+answering-said Accepted = refl
+answering-said (Refused f place) = ap (λ (g : Fault). Refused g place) (named-number f)
+
+-- two answers that say the same are the same
+pub said-once : (a b : Answer) → said a ≡ said b → a ≡ b
+said-once a b h = sym (answering-said a) ∙ ap answering h ∙ answering-said b

@@ -1,0 +1,50 @@
+-- Tests as facts: what a Bool that came out true says.
+use Prim.Native.Nat.{ℕ, _≤_}
+use mathlib.Core.Path.{_≡_, refl, sym, _∙_}
+use mathlib.Core.Bool.{Bool, true, false, _&&_, _||_}
+use mathlib.Core.List.{List, [], _∷_}
+use native.Mathlib.Omega.{arith}
+use lib.Dec.{T, eqb, leb, eqb→eq, eqb-refl, leb→le}
+use Rattle.paper.specs.Fields.{within, same}
+
+pub and-l : (a b : Bool) → T (a && b) → T a
+and-l true b t = tt
+and-l false b t = t
+
+pub and-r : (a b : Bool) → T (a && b) → T b
+and-r true b t = t
+and-r false b t = absurd t
+
+pub or-go : {A : Type 0} (a b : Bool) → T (a || b) → (T a → A) → (T b → A) → A
+or-go true b t f g = f tt
+or-go false b t f g = g t
+
+pub T-of : {b : Bool} → b ≡ true → T b
+T-of e = rw e tt
+
+pub of-T : (b : Bool) → T b → b ≡ true
+of-T true t = refl
+of-T false t = absurd t
+
+pub within-range : (low high n : ℕ) → T (within low high n) → (low ≤ n) × (n ≤ high)
+within-range low high n t = (leb→le low n (and-l (leb low n) (leb n high) t), leb→le n high (and-r (leb low n) (leb n high) t))
+
+pub same→eq : (a b : List ℕ) → T (same a b) → a ≡ b
+unfolding same
+same→eq [] [] t = refl
+same→eq [] (y ∷ ys) t = absurd t
+same→eq (x ∷ xs) [] t = absurd t
+same→eq (x ∷ xs) (y ∷ ys) t = λ i. eqb→eq x y (and-l (eqb x y) (same xs ys) t) i ∷ same→eq xs ys (and-r (eqb x y) (same xs ys) t) i
+
+pub eqb-true : (n : ℕ) → eqb n n ≡ true
+eqb-true n = of-T (eqb n n) (eqb-refl n)
+
+pub eqb-false : (m n : ℕ) → (m ≡ n → ⊥) → eqb m n ≡ false
+eqb-false m n h = go (eqb m n) refl
+  where
+    go : (b : Bool) → eqb m n ≡ b → b ≡ false
+    go true e = absurd (h (eqb→eq m n (T-of e)))
+    go false e = refl
+
+pub eqb-ne : (m n : ℕ) → eqb m n ≡ false → m ≡ n → ⊥
+eqb-ne m n e q = let z : true ≡ false = sym (rw q (eqb-true n)) ∙ e in let w : _≡_ {A = ℕ} 0 1 = cc in omega arith

@@ -1,0 +1,75 @@
+-- Extracting, building and stripping into a lent buffer: the order of refusals, and the buffer's final bytes.
+use Prim.Native.Nat.{ℕ, _%_}
+use mathlib.Core.Bool.{Bool, true, false, _&&_}
+use mathlib.Core.List.{List, _++_}
+use lib.Dec.{leb, eqb}
+use lib.ListN.{length, drop, getD}
+use Rattle.paper.specs.declared.rules.Rules.{Rules}
+use Rattle.paper.specs.Answers.{Said, accepted, refused}
+use Rattle.paper.specs.Fields.{within}
+use Rattle.paper.specs.Reading.{reading, lengthGood}
+use Rattle.paper.specs.Writing.{blanks}
+use Rattle.paper.specs.Extract.{extract}
+use Rattle.paper.specs.Trays.{trayRecords, trayFault, build, strip}
+
+-- the answer, how many bytes were written where it is acceptance, and the buffer as it is handed back
+pub record Outcome : Type 0 where
+  pub answer : Said
+  pub written : ℕ
+  pub buffer : List ℕ
+
+-- a refusal stands; acceptance asks on
+unfoldable pub andThen : Said → Said → Said
+andThen (refused n place) next = refused n place
+andThen accepted next = next
+
+-- a refusal tied to no record, at 0
+unfoldable pub require : Bool → ℕ → Said
+require true n = accepted
+require false n = refused n 0
+
+-- the first bytes are new, the rest of the buffer stays
+unfoldable pub over : List ℕ → List ℕ → List ℕ
+over new buffer = new ++ drop (length new) buffer
+
+-- where accepted the bytes are written; every refusal leaves the buffer unchanged
+unfoldable pub written : Said → List ℕ → List ℕ → Outcome
+written accepted new buffer = record { answer = accepted; written = length new; buffer = over new buffer }
+written (refused n place) new buffer = record { answer = refused n place; written = 0; buffer = buffer }
+
+-- output buffer shorter than the output
+unfoldable pub roomFor : List ℕ → List ℕ → Said
+roomFor new buffer = require (leb (length new) (length buffer)) 206
+
+-- 208: entity number not 1 to 499, or not on the roster
+unfoldable pub entityGiven : Rules → ℕ → Said
+entityGiven rules e = require (within 1 499 e && getD (rules .roster) e false) 208
+
+-- extracting for E: 208, then the reading's refusals, then 206
+unfoldable pub extracting : Rules → ℕ → List ℕ → List ℕ → Outcome
+extracting rules e file buffer =
+    let new = extract (rules .currency) e file in
+    written (andThen (entityGiven rules e) (andThen (reading rules file) (roomFor new buffer))) new buffer
+
+-- stripping: the reading's refusals, then 206
+unfoldable pub stripping : Rules → List ℕ → List ℕ → Outcome
+stripping rules file buffer = let new = strip file in written (andThen (reading rules file) (roomFor new buffer)) new buffer
+
+-- 207: header body not 94 bytes or tray no multiple of 96, at 0; then the first bad tray record, at its place
+unfoldable pub trayAnswer : List ℕ → List ℕ → Said
+trayAnswer header tray = andThen (require (eqb (length header) 94 && eqb (length tray % 96) 0) 207) (trayFault 0 (trayRecords tray))
+
+-- when the reading refuses, the bytes that the built file would have taken are all spaces
+unfoldable pub builtAs : Said → List ℕ → List ℕ → Outcome
+builtAs accepted file buffer = written accepted file buffer
+builtAs (refused n place) file buffer = record { answer = refused n place; written = 0; buffer = over (blanks (length file)) buffer }
+
+unfoldable pub builtIf : Said → Rules → List ℕ → List ℕ → Outcome
+builtIf (refused n place) rules file buffer = written (refused n place) file buffer
+builtIf accepted rules file buffer = builtAs (reading rules file) file buffer
+
+-- building: 207, 201, 206, then the reading's answer on the result
+unfoldable pub building : Rules → List ℕ → List ℕ → List ℕ → Outcome
+building rules header tray buffer =
+    let file = build header tray in
+    builtIf (andThen (trayAnswer header tray) (andThen (require (lengthGood (length file)) 201) (roomFor file buffer))) rules file buffer

@@ -1,0 +1,52 @@
+-- Questions put to the definitions, each with the answer that is claimed.
+use Prim.Native.Nat.{ℕ}
+use mathlib.Core.Path.{_≡_}
+use mathlib.Core.Bool.{true, false}
+use mathlib.Core.List.{List, [], _∷_}
+use lib.ListN.{getD, replicate}
+use Rattle.paper.specs.declared.rules.Rules.{Rules}
+use Rattle.paper.specs.declared.rules.Currency.{Currency}
+use Rattle.paper.specs.declared.ledger.Cell.{Cell}
+use Rattle.paper.specs.Answers.{Said, accepted, refused}
+use Rattle.paper.specs.Reading.{reading}
+use Rattle.paper.specs.Sessions.{Session, zeroCell, opening, presenting}
+use Rattle.paper.specs.Buffers.{Outcome, extracting, building, stripping}
+
+pub data Claim : Type 0 where
+  reads : Rules → List ℕ → Said → Claim
+  opens : ℕ → Currency → List ℕ → Said → Claim
+  presents : Session → List ℕ → Said → Session → Claim
+  holds : Session → ℕ → Cell → Claim
+  extracts : Rules → ℕ → List ℕ → List ℕ → Outcome → Claim
+  builds : Rules → List ℕ → List ℕ → List ℕ → Outcome → Claim
+  strips : Rules → List ℕ → List ℕ → Outcome → Claim
+
+abbrev pub Holds : Claim → Type 0
+Holds (reads rules file answer) = reading rules file ≡ answer
+Holds (opens date currency entities answer) = opening date currency entities .answer ≡ answer
+Holds (presents s file answer after) = presenting s file ≡ record { answer = answer; session = after }
+Holds (holds s e cell) = getD (s .cells) e zeroCell ≡ cell
+Holds (extracts rules e file buffer outcome) = extracting rules e file buffer ≡ outcome
+Holds (builds rules header tray buffer outcome) = building rules header tray buffer ≡ outcome
+Holds (strips rules file buffer outcome) = stripping rules file buffer ≡ outcome
+
+-- a row of a table: the number of its case, and what is claimed
+pub data Row : Type 0 where
+  case : ℕ → Claim → Row
+
+-- every row of a table holds
+infixr 10 _and_
+pub data All : List Row → Type 0 where
+  done : All []
+  _and_ : {n : ℕ} {claim : Claim} {rows : List Row} → Holds claim → All rows → All (case n claim ∷ rows)
+
+-- entities 1 to 499
+abbrev pub dated : ℕ → Currency → Rules
+dated date currency = record { date = date; currency = currency; roster = false ∷ replicate 499 true }
+
+-- so many bytes were written, and the buffer then; or a refusal, and the buffer then
+abbrev pub wrote : ℕ → List ℕ → Outcome
+wrote n buffer = record { answer = accepted; written = n; buffer = buffer }
+
+abbrev pub gave : ℕ → ℕ → List ℕ → Outcome
+gave n place buffer = record { answer = refused n place; written = 0; buffer = buffer }

@@ -1,0 +1,87 @@
+-- The words of the three demands: sessions and the files they accepted, records that name an entity, numbers aside, numbered as building numbers.
+use Prim.Native.Nat.{ℕ, zero, suc}
+use mathlib.Core.Path.{_≡_}
+use mathlib.Core.Bool.{Bool, false, cond, _||_}
+use mathlib.Core.List.{List, [], _∷_, _++_}
+use lib.Dec.{eqb}
+use lib.IntN.{ℤ, pos, _+ℤ_}
+use Rattle.paper.specs.declared.rules.Currency.{Currency}
+use Rattle.paper.specs.declared.record.Kind.{Kind}
+use Rattle.paper.specs.declared.record.Kind.the-variants.{FileHeader, BatchHeader, Individual, Additional, BatchControl, FileControl, Other}
+use Rattle.paper.specs.Answers.{Said, accepted, refused}
+use Rattle.paper.specs.Fields.{field}
+use Rattle.paper.specs.Entities.{entity}
+use Rattle.paper.specs.Kinds.{kindOf}
+use Rattle.paper.specs.Reading.{recordsOf}
+use Rattle.paper.specs.Postings.{Posting, postings}
+use Rattle.paper.specs.Sessions.{Session, opening, presenting, originOf, identifierOf}
+use Rattle.paper.specs.Writing.{spelled, blanks}
+use Rattle.paper.specs.Extract.{Batch}
+use Rattle.paper.specs.Trays.{batchesAfter, individualsAfter}
+
+-- ---- after any calls
+
+unfoldable pub withAccepted : Said → List (List ℕ) → List ℕ → List (List ℕ)
+withAccepted accepted files file = files ++ file ∷ []
+withAccepted (refused n place) files file = files
+
+-- a session that came from opening and presenting, and the files accepted when presented, in order
+pub data Came : Session → List (List ℕ) → Type 0 where
+  opened : (date : ℕ) (currency : Currency) (entities : List ℕ) → Came ((opening date currency entities) .session) []
+  presented : {s : Session} {files : List (List ℕ)} → Came s files → (file : List ℕ)
+      → Came ((presenting s file) .session) (withAccepted ((presenting s file) .answer) files file)
+
+-- the individual records of the files, as postings
+unfoldable pub postingsOf : List (List ℕ) → List Posting
+postingsOf [] = []
+postingsOf (f ∷ fs) = postings f ++ postingsOf fs
+
+-- f 0 + f 1 + .. + f (n - 1)
+unfoldable pub sumTo : ℕ → (ℕ → ℤ) → ℤ
+sumTo zero f = pos 0
+sumTo (suc n) f = sumTo n f +ℤ f n
+
+-- ---- own records only
+
+unfoldable pub allRecords : List (List ℕ) → List (List ℕ)
+allRecords [] = []
+allRecords (f ∷ fs) = recordsOf f ++ allRecords fs
+
+-- an individual record names E as sender in 80-87, as receiver in 4-11
+unfoldable pub names : Kind → ℕ → List ℕ → Bool
+names FileHeader e r = false
+names BatchHeader e r = false
+names Individual e r = eqb e (entity (field r 80 87)) || eqb e (entity (field r 4 11))
+names Additional e r = false
+names BatchControl e r = false
+names FileControl e r = false
+names Other e r = false
+
+unfoldable pub naming : ℕ → List (List ℕ) → List (List ℕ)
+naming e [] = []
+naming e (r ∷ rs) = cond (names (kindOf r) e r) (r ∷ naming e rs) (naming e rs)
+
+-- the identifiers accepted from an origin, in order
+unfoldable pub identifiersFrom : ℕ → List (List ℕ) → List ℕ
+identifiersFrom origin [] = []
+identifiersFrom origin (f ∷ fs) = cond (eqb origin (originOf f)) (identifierOf f ∷ identifiersFrom origin fs) (identifiersFrom origin fs)
+
+-- batches with their headers' numbers aside
+unfoldable pub numbersAside : List Batch → List Batch
+numbersAside [] = []
+numbersAside (b ∷ bs) = record { header = field (b .header) 1 87; items = b .items } ∷ numbersAside bs
+
+-- ---- numbered as building numbers, free control positions blank: b batches and n individuals stand before the record
+
+abbrev pub Tidy : Kind → ℕ → ℕ → List ℕ → Type 0
+Tidy FileHeader b n r = Unit {0}
+Tidy BatchHeader b n r = field r 88 94 ≡ spelled 7 (suc b)
+Tidy Individual b n r = field r 88 94 ≡ spelled 7 (suc n)
+Tidy Additional b n r = field r 88 94 ≡ spelled 7 n
+Tidy BatchControl b n r = (field r 55 79 ≡ blanks 25) × (field r 88 94 ≡ spelled 7 b)
+Tidy FileControl b n r = field r 56 94 ≡ blanks 39
+Tidy Other b n r = Unit {0}
+
+abbrev pub AsBuilt : ℕ → ℕ → List (List ℕ) → Type 0
+AsBuilt b n [] = Unit {0}
+AsBuilt b n (r ∷ rs) = Tidy (kindOf r) b n r × AsBuilt (batchesAfter (kindOf r) b) (individualsAfter (kindOf r) n) rs

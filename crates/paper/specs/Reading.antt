@@ -1,0 +1,156 @@
+-- The reading: 201, then records in order. In a record: characters, whether this type may stand here, then its fields. The first fault is the answer.
+use Prim.Native.Nat.{ℕ, zero, suc, _+_, _/_, _%_}
+use mathlib.Core.Bool.{Bool, true, false, _&&_}
+use mathlib.Core.List.{List, [], _∷_}
+use lib.Dec.{eqb}
+use lib.ListN.{length, take, drop}
+use Rattle.paper.specs.declared.rules.Rules.{Rules}
+use Rattle.paper.specs.declared.record.Kind.{Kind}
+use Rattle.paper.specs.declared.record.Kind.the-variants.{FileHeader, BatchHeader, Individual, Additional, BatchControl, FileControl, Other}
+use Rattle.paper.specs.declared.record.Before.{Before}
+use Rattle.paper.specs.declared.record.Before.the-variants.{Nothing, Between, Opened, Flagged, Inside, Ended}
+use Rattle.paper.specs.Answers.{Said, accepted, refused}
+use Rattle.paper.specs.Checks.{Check, fine, wrong, need, _also_}
+use Rattle.paper.specs.Fields.{field, within, every, good, is, number}
+use Rattle.paper.specs.Kinds.{kindOf, allowed}
+use Rattle.paper.specs.Records.{fileHeader, batchHeader, individual, additional}
+use Rattle.paper.specs.Controls.{Tally, zeros, plus, withIndividual, withAdditional, batchControl, fileControl}
+
+-- what has been counted: records, so this one's place; the header of the last batch; 88-94 of the last individual, or 0; batches;
+-- what its control counts of the batch, and the file control of the batches closed
+pub record Counts : Type 0 where
+  pub place : ℕ
+  pub header : List ℕ
+  pub number : ℕ
+  pub batches : ℕ
+  pub batch : Tally
+  pub closed : Tally
+
+unfoldable pub nothingCounted : Counts
+nothingCounted = record { place = 0; header = []; number = 0; batches = 0; batch = zeros; closed = zeros }
+
+-- one record further
+abbrev pub onward : Counts → Counts
+onward c = record { place = c .place + 1; header = c .header; number = c .number; batches = c .batches; batch = c .batch; closed = c .closed }
+
+unfoldable pub counted : Kind → Counts → List ℕ → Counts
+counted FileHeader c r = onward c
+counted BatchHeader c r = record { place = c .place + 1; header = r; number = c .number; batches = suc (c .batches); batch = zeros; closed = c .closed }
+counted Individual c r = record {
+  place = c .place + 1;
+  header = c .header;
+  number = number (field r 88 94);
+  batches = c .batches;
+  batch = withIndividual (c .batch) r;
+  closed = c .closed;
+}
+counted Additional c r = record {
+  place = c .place + 1;
+  header = c .header;
+  number = c .number;
+  batches = c .batches;
+  batch = withAdditional (c .batch);
+  closed = c .closed;
+}
+counted BatchControl c r = record {
+  place = c .place + 1;
+  header = c .header;
+  number = c .number;
+  batches = c .batches;
+  batch = c .batch;
+  closed = plus (c .closed) (c .batch);
+}
+counted FileControl c r = onward c
+counted Other c r = onward c
+
+-- what the next record finds before it: what stands there, the last individual record, the counts
+pub record State : Type 0 where
+  pub before : Before
+  pub individual : List ℕ
+  pub counts : Counts
+
+unfoldable pub start : State
+start = record { before = Nothing; individual = []; counts = nothingCounted }
+
+-- a 6 by whether its position 79 is 1
+unfoldable pub flag : Bool → Before
+flag true = Flagged
+flag false = Inside
+
+unfoldable pub standing : Kind → List ℕ → Before
+standing FileHeader r = Between
+standing BatchHeader r = Opened
+standing Individual r = flag (is (field r 79 79) "1")
+standing Additional r = Inside
+standing BatchControl r = Between
+standing FileControl r = Ended
+standing Other r = Ended
+
+unfoldable pub lastIndividual : Kind → List ℕ → List ℕ → List ℕ
+lastIndividual FileHeader i r = i
+lastIndividual BatchHeader i r = i
+lastIndividual Individual i r = r
+lastIndividual Additional i r = i
+lastIndividual BatchControl i r = i
+lastIndividual FileControl i r = i
+lastIndividual Other i r = i
+
+unfoldable pub next : State → List ℕ → State
+next s r = record {
+  before = standing (kindOf r) r;
+  individual = lastIndividual (kindOf r) (s .individual) r;
+  counts = counted (kindOf r) (s .counts) r;
+}
+
+-- a record's fields, by its type; one of no type may stand nowhere
+unfoldable pub fields : Kind → Rules → State → List ℕ → Check
+fields FileHeader rules s r = fileHeader rules r
+fields BatchHeader rules s r = batchHeader rules r
+fields Individual rules s r = individual rules (s .counts .header) (s .counts .number) r
+fields Additional rules s r = additional (s .individual) r
+fields BatchControl rules s r = batchControl (s .counts .header) (s .counts .batch) r
+fields FileControl rules s r = fileControl (s .counts .place + 1) (s .counts .batches) (s .counts .closed) r
+fields Other rules s r = wrong 17
+
+unfoldable pub judged : Rules → State → List ℕ → Check
+judged rules s r =
+    need (every good r) 17
+    also allowed (s .before) (kindOf r)
+    also fields (kindOf r) rules s r
+
+-- records that end before a 9 are 17 at the place one past the last
+unfoldable pub finish : Before → ℕ → Said
+finish Nothing place = refused 17 place
+finish Between place = refused 17 place
+finish Opened place = refused 17 place
+finish Flagged place = refused 17 place
+finish Inside place = refused 17 place
+finish Ended place = accepted
+
+-- the first fault is the answer, at its record's place
+unfoldable pub unlessWrong : Check → ℕ → Said → Said
+unlessWrong fine place rest = rest
+unlessWrong (wrong n) place rest = refused n place
+
+-- the records from a state on
+unfoldable pub readingFrom : Rules → State → List (List ℕ) → Said
+readingFrom rules s [] = finish (s .before) (s .counts .place)
+readingFrom rules s (r ∷ rs) = let rest = readingFrom rules (next s r) rs in unlessWrong (judged rules s r) (s .counts .place) rest
+
+-- the first n parts of a width
+unfoldable pub parts : ℕ → ℕ → List ℕ → List (List ℕ)
+parts width zero l = []
+parts width (suc n) l = take width l ∷ parts width n (drop width l)
+
+unfoldable pub recordsOf : List ℕ → List (List ℕ)
+recordsOf file = parts 94 (length file / 94) file
+
+unfoldable pub lengthGood : ℕ → Bool
+lengthGood n = within 188 940000 n && eqb (n % 94) 0
+
+unfoldable pub readingIf : Bool → Rules → List ℕ → Said
+readingIf true rules file = readingFrom rules start (recordsOf file)
+readingIf false rules file = refused 201 0
+
+unfoldable pub reading : Rules → List ℕ → Said
+reading rules file = readingIf (lengthGood (length file)) rules file

@@ -1,0 +1,99 @@
+-- The fields of file header, batch header, individual and additional, in the order printed.
+use Prim.Native.Nat.{ℕ}
+use mathlib.Core.Bool.{Bool, true, false, not, _&&_, _||_}
+use mathlib.Core.List.{List}
+use lib.Dec.{ltb}
+use Rattle.paper.specs.declared.rules.Rules.{Rules}
+use Rattle.paper.specs.Checks.{Check, need, _also_}
+use Rattle.paper.specs.Fields.{field, every, digit, capital, digits, blank, same, is, number, spells}
+use Rattle.paper.specs.Dates.{dateField, timeField}
+use Rattle.paper.specs.Entities.{entityField, ofCurrency, onRoster}
+use Rattle.paper.specs.Kinds.{codeOf, known, isOrder, collects, rejects}
+
+-- 1, file header
+unfoldable pub fileHeader : Rules → List ℕ → Check
+fileHeader rules r =
+    need (is (field r 2 3) "01") 17
+    also need (is (field r 4 4) " " && digits (field r 5 12) && is (field r 13 13) "0") 17
+    also need (is (field r 14 14) " " && entityField (field r 15 22) && is (field r 23 23) "0") 17
+    also need (dateField (field r 24 29) && spells (field r 24 29) (rules .date)) 75
+    also need (timeField (field r 30 33)) 17
+    also need (every (λ b. digit b || capital b) (field r 34 34)) 17
+    also need (is (field r 35 40) "094101") 17
+    also need (ofCurrency (rules .currency) (field r 15 22)) 203
+    also need (onRoster (rules .roster) (field r 15 22)) 204
+
+-- 5, batch header; 80-87 is the sender
+unfoldable pub batchHeader : Rules → List ℕ → Check
+batchHeader rules r =
+    need (digits (field r 2 4)) 17
+    also need (not (blank (field r 5 20))) 17
+    also need (digits (field r 41 50)) 17
+    also need (not (blank (field r 54 63))) 17
+    also need (dateField (field r 70 75)) 75
+    also need (digits (field r 79 79)) 17
+    also need (entityField (field r 80 87)) 17
+    also need (ofCurrency (rules .currency) (field r 80 87)) 203
+    also need (onRoster (rules .roster) (field r 80 87)) 204
+    also need (digits (field r 88 94)) 17
+
+-- amount in cents
+unfoldable pub amountOf : List ℕ → ℕ
+amountOf r = number (field r 30 39)
+
+-- account
+unfoldable pub accountGood : List ℕ → Bool
+accountGood r = digits (field r 13 29)
+
+-- 77-78 is "00", or "01" with 37 or 36 only
+unfoldable pub informationGood : List ℕ → Bool
+informationGood r = is (field r 77 78) "00" || is (field r 77 78) "01" && collects (codeOf r)
+
+-- position 79 is 0 only for 37 with "00"
+unfoldable pub flagGood : List ℕ → Bool
+flagGood r = is (field r 79 79) "1" || isOrder (codeOf r) && is (field r 77 78) "00"
+
+-- 80-87 equals the sender's field, that of the batch's header, and 88-94 exceeds that of the individual record before it
+unfoldable pub counterGood : List ℕ → ℕ → List ℕ → Bool
+counterGood header before r = same (field r 80 87) (field header 80 87) && ltb before (number (field r 88 94))
+
+-- 6, individual, in the batch under a header; `before` is 88-94 of the individual before it in the file, 0 for the first
+unfoldable pub individual : Rules → List ℕ → ℕ → List ℕ → Check
+individual rules header before r =
+    need (known (codeOf r)) 17
+    also need (entityField (field r 4 11)) 17
+    also need (ofCurrency (rules .currency) (field r 4 11)) 203
+    also need (onRoster (rules .roster) (field r 4 11)) 204
+    also need (is (field r 12 12) "0") 77
+    also need (accountGood r) 78
+    also need (digits (field r 30 39) && ltb 0 (amountOf r)) 19
+    also need (not (blank (field r 40 54))) 79
+    also need (not (blank (field r 55 76))) 17
+    also need (informationGood r) 87
+    also need (is (field r 79 79) "0" || is (field r 79 79) "1") 17
+    also need (flagGood r) 25
+    also need (digits (field r 80 94)) 17
+    also need (counterGood header before r) 27
+
+-- 7, additional, after an individual record: 99 after 36 or 31, 05 after the others
+unfoldable pub additional99 : List ℕ → List ℕ → Check
+additional99 after r =
+    need (is (field r 2 3) "99") 25
+    also need (is (field r 4 4) "R" && digits (field r 5 6)) 17
+    also need (digits (field r 7 21)) 17
+    also need (blank (field r 22 27)) 17
+    also need (digits (field r 28 35)) 17
+    also need (same (field r 80 94) (field after 80 94)) 25
+
+unfoldable pub additional05 : List ℕ → List ℕ → Check
+additional05 after r =
+    need (is (field r 2 3) "05") 25
+    also need (digits (field r 84 87)) 17
+    also need (same (field r 88 94) (field after 88 94)) 25
+
+unfoldable pub additionalBy : Bool → List ℕ → List ℕ → Check
+additionalBy true after r = additional99 after r
+additionalBy false after r = additional05 after r
+
+unfoldable pub additional : List ℕ → List ℕ → Check
+additional after r = additionalBy (rejects (codeOf after)) after r

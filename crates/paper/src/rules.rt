@@ -1,0 +1,12 @@
+// What a session is opened with.
+pub enum Currency {
+    Pesos,
+    Dollars,
+}
+
+// The date AAMMDD as the number its digits spell, the currency, and for each entity number whether it is on the roster.
+pub struct Rules {
+    pub date: u64,
+    pub currency: Currency,
+    pub roster: [bool; 500],
+}
