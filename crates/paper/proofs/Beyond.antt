@@ -1,15 +1,15 @@
 -- The cases beyond the marked ones hold: each row is computed.
 use mathlib.Core.Path.{refl}
 use Rattle.paper.specs.Computing.{computing}
-use Rattle.paper.specs.Claims.{All, done, _and_}
+use Rattle.paper.specs.Claims.{goodBelow, All, done, _and_}
 use Rattle.paper.specs.Beyond.{beyond}
 
 pub beyond-cases : All beyond
-unfolding computing
+unfolding computing goodBelow
 beyond-cases =
     refl and refl and refl and  -- 13
     refl and refl and  -- 14
-    refl and refl and  -- 15
+    refl and refl and refl and  -- 15
     refl and refl and refl and refl and refl and  -- 16
     refl and refl and refl and refl and refl and refl and refl and refl and refl and refl and refl and  -- 17
     refl and refl and refl and refl and refl and refl and  -- 18

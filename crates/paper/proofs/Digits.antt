@@ -2,16 +2,16 @@
 use Prim.Native.Nat.{ℕ, zero, suc, _+_, _*_, _-_, _≤_, _<_, _/_, _%_, _^_}
 use native.Mathlib.Nat.{pow-zero, pow-suc, mod-lt}
 use native.Mathlib.Omega.{arith}
-use mathlib.Core.Bool.{Bool, true, false, _&&_}
+use mathlib.Core.Bool.{Bool, true, false, _&&_, cond}
 use mathlib.Core.List.{[], List, _∷_, _++_}
 use mathlib.Core.Path.{_≡_, refl, sym, ap, _∙_, ap₂}
 use lib.Arith.{mod-mul, digits-div, digits-mod}
 use lib.Dec.{eqb, T, eqb→eq}
 use lib.ListN.{length, getD, take}
 use lib.Seq.{take-all, length-take-le, take-suc}
-use Rattle.paper.specs.Fields.{every, digit, digits, valueFrom, value, spells}
+use Rattle.paper.specs.Fields.{every, digit, digits, valueFrom, value, number, spells}
 use Rattle.paper.specs.Writing.{spelled}
-use Rattle.paper.proofs.Tests.{and-l, and-r, within-range}
+use Rattle.paper.proofs.Tests.{and-l, and-r, T-of, within-range}
 
 -- a list as long as suc w, cut before its last element
 
@@ -79,6 +79,15 @@ spells-spelled w f n h t =
 pub ten-pos : (w : ℕ) → 0 < 10 ^ w
 ten-pos zero = omega (arith, pow-zero 10)
 ten-pos (suc w) = omega (arith, pow-suc 10 w, ten-pos w)
+
+-- whatever stands in a field of w bytes, its number is below 10 to the w
+pub number-bound : (w : ℕ) (f : List ℕ) → length f ≡ w → number f < 10 ^ w
+unfolding number
+number-bound w f h = go (digits f) refl
+  where
+    go : (b : Bool) → digits f ≡ b → cond b (value f) 0 < 10 ^ w
+    go true e = value-bound w f h (T-of e)
+    go false e = ten-pos w
 
 -- only the last w digits count
 pub spelled-mod : (w n : ℕ) → spelled w (n % 10 ^ w) ≡ spelled w n

@@ -14,7 +14,7 @@ use Rattle.paper.specs.declared.record.Kind.the-variants.{FileHeader, Ba
 use Rattle.paper.specs.declared.rules.Rules.{Rules}
 use Rattle.paper.specs.Answers.{accepted}
 use Rattle.paper.specs.Checks.{fine}
-use Rattle.paper.specs.Fields.{field, within, every, good, digits, same, is, value, number}
+use Rattle.paper.specs.Fields.{field, within, every, good, digits, same, is}
 use Rattle.paper.specs.Entities.{entityValue, ofCurrency, entityField, entity, onRoster}
 use Rattle.paper.specs.Kinds.{kindOf, codeOf, known}
 use Rattle.paper.specs.Records.{fileHeader, amountOf, counterGood}
@@ -22,7 +22,7 @@ use Rattle.paper.specs.Reading.{counted, State, start, flag, standing, n
 use Rattle.paper.specs.Sessions.{listed}
 use Rattle.paper.proofs.Tests.{and-l, and-r, or-go, of-T, within-range, same→eq}
 use Rattle.paper.proofs.Lists.{Sized}
-use Rattle.paper.proofs.Digits.{value-bound}
+use Rattle.paper.proofs.Digits.{number-bound}
 use Rattle.paper.proofs.Accepted.{Reads, IndividualRead, individual-read, BatchRead, batch-read, Follows, file-begins, batch-opens, file-ends, first-individual, its-additional, next-individual, batch-closes, judged-facts, accepted-facts}
 
 -- an entity of the session
@@ -79,18 +79,17 @@ unfolding counterGood
 own-sender header n r t = same→eq (field r 80 87) (field header 80 87) (and-l (same (field r 80 87) (field header 80 87)) _ t)
 
 individual-of : (rules : Rules) (header r : List ℕ) (n : ℕ) → length r ≡ 94 → BatchRead rules header → IndividualRead rules header n r → IndividualFacts rules r
-unfolding amountOf number
+unfolding amountOf
 individual-of rules header r n l b o =
     let d : T (digits (field r 30 39)) = and-l (digits (field r 30 39)) _ (o .amount) in
     let e : field header 80 87 ≡ field r 80 87 = sym (own-sender header n r (o .counter)) in
-    let v : amountOf r ≡ value (field r 30 39) = rw (of-T (digits (field r 30 39)) d) in
     record {
       code = o .code;
       destination = entity-of rules (field r 4 11) (o .destination) (o .listed);
       sender = entity-of rules (field r 80 87) (rw e at (b .sender)) (rw e at (b .listed));
       digits = d;
       some = ltb→lt 0 (amountOf r) (and-r (digits (field r 30 39)) (ltb 0 (amountOf r)) (o .amount));
-      below = rw v (value-bound 10 (field r 30 39) (simp (length-take, length-drop, l)) d);
+      below = number-bound 10 (field r 30 39) (simp (length-take, length-drop, l));
       flag = o .flag;
     }
 

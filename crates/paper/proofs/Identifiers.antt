@@ -1,12 +1,13 @@
 -- 209 is answered exactly for an identifier already accepted from this origin; and what the answer to a presentation depends on.
-use Prim.Native.Nat.{ℕ, zero, suc, _+_, _*_, _≤_, _<_}
+use Prim.Native.Nat.{ℕ, _+_, _*_, _≤_, _<_}
 use native.Mathlib.Omega.{arith}
 use mathlib.Core.Bool.{Bool, true, false, cond, _||_}
 use mathlib.Core.List.{[], List, _∷_, _++_, map}
 use mathlib.Core.Path.{_≡_, refl, sym, ap, _∙_, subst, ap₂}
 use lib.Dec.{eqb, leb, T, leb→le, le→leb, eqb→eq}
-use lib.ListN.{length, getD, take, drop, set, length-replicate, length-set, getD-replicate}
+use lib.ListN.{length, getD, take, set, length-replicate, length-set, getD-replicate}
 use lib.Seq.{length-take-le, getD-set-same, getD-set-other, getD-take}
+use borrow.Author.Tests.{eq-eqb, ne-eqb, eqb-false}
 use Rattle.paper.specs.declared.record.Kind.{Kind}
 use Rattle.paper.specs.declared.rules.Rules.{Rules}
 use Rattle.paper.specs.Answers.{Said, accepted, refused}
@@ -16,7 +17,8 @@ use Rattle.paper.specs.Records.{fileHeader}
 use Rattle.paper.specs.Reading.{start, fields, reading}
 use Rattle.paper.specs.Sessions.{Session, newSession, originOf, identifierIf, identifierOf, keyOf, unlessUsed, answerTo, sessionAfter, presenting}
 use Rattle.paper.specs.Demands.{withAccepted, Came, opened, presented, identifiersFrom}
-use Rattle.paper.proofs.Tests.{and-l, or-go, T-of, of-T, within-range, eqb-true, eqb-false, eqb-ne}
+use Rattle.paper.proofs.Tests.{and-l, or-go, T-of, of-T, within-range}
+use Rattle.paper.proofs.Lists.{one-of}
 use Rattle.paper.proofs.Accepted.{also-l, also-r, need-T, Reads, judged-facts, first-header, accepted-facts}
 use Rattle.paper.proofs.Figures.{entity-lt, opened-by}
 use Rattle.paper.proofs.Own.{presented-new}
@@ -26,11 +28,6 @@ use Rattle.paper.proofs.Own.{presented-new}
 header-identifier : (rules : Rules) (r : List ℕ) → fileHeader rules r ≡ fine → T (every (λ b. digit b || capital b) (field r 34 34))
 unfolding fileHeader
 header-identifier rules r h = search (also-l, also-r, need-T) depth 12
-
-one-of : (r : List ℕ) (i : ℕ) → i < length r → take 1 (drop i r) ≡ getD r i 0 ∷ []
-one-of [] i h = absurd (omega arith)
-one-of (x ∷ r) zero h = refl
-one-of (x ∷ r) (suc i) h = one-of r i (omega arith)
 
 -- the header of an accepted file
 pub header-read : (rules : Rules) (file : List ℕ) → reading rules file ≡ accepted → fileHeader rules (take 94 file) ≡ fine
@@ -111,7 +108,7 @@ marks-came (presented {s} {files} c file) k l = go (answerTo s file) refl (marks
 
     mark : (b : Bool) → eqb k key ≡ b → key < 18000 → getD (s .used) k false ≡ among (map keyOf files) k → getD (set (s .used) key true) k false ≡ (b || among (map keyOf files) k)
     mark true e m h = let q : k ≡ key = eqb→eq k key (T-of e) in rw q (getD-set-same (s .used) key true false (omega (arith, used-length c)))
-    mark false e m h = getD-set-other (s .used) key k true false (eqb-ne k key e) ∙ h
+    mark false e m h = getD-set-other (s .used) key k true false (eqb-false k key e) ∙ h
 
     go : (a : Said) → answerTo s file ≡ a → getD (s .used) k false ≡ among (map keyOf files) k → getD (sessionAfter a s file .used) k false ≡ among (map keyOf (withAccepted a files file)) k
     go (refused n place) e h = h
@@ -131,15 +128,15 @@ keys-identifiers o i [] l a = refl
 keys-identifiers o i (f ∷ fs) l a = go (eqb o (originOf f)) refl (keys-identifiers o i fs l (a .1))
   where
     same-origin : o ≡ originOf f → (b : Bool) → eqb i (identifierOf f) ≡ b → eqb (o * 36 + i) (originOf f * 36 + identifierOf f) ≡ b
-    same-origin q true e = let w : i ≡ identifierOf f = eqb→eq i (identifierOf f) (T-of e) in rw (q, w) (eqb-true (originOf f * 36 + identifierOf f))
-    same-origin q false e = let n = eqb-ne i (identifierOf f) e in rw q (eqb-false (originOf f * 36 + i) (originOf f * 36 + identifierOf f) (λ w. n (omega arith)))
+    same-origin q true e = let w : i ≡ identifierOf f = eqb→eq i (identifierOf f) (T-of e) in rw (q, w) (eq-eqb (originOf f * 36 + identifierOf f) _ refl)
+    same-origin q false e = let n = eqb-false i (identifierOf f) e in rw q (ne-eqb (originOf f * 36 + i) (originOf f * 36 + identifierOf f) (λ w. n (omega arith)))
 
     go : (b : Bool) → eqb o (originOf f) ≡ b → among (map keyOf fs) (o * 36 + i) ≡ among (identifiersFrom o fs) i
         → (eqb (o * 36 + i) (originOf f * 36 + identifierOf f) || among (map keyOf fs) (o * 36 + i)) ≡ among (cond b (identifierOf f ∷ identifiersFrom o fs) (identifiersFrom o fs)) i
     go true e h = ap₂ _||_ (same-origin (eqb→eq o (originOf f) (T-of e)) (eqb i (identifierOf f)) refl) h
     go false e h =
-        let n = eqb-ne o (originOf f) e in
-        rw (eqb-false (o * 36 + i) (originOf f * 36 + identifierOf f) (λ w. n (omega (arith, a .0)))) h
+        let n = eqb-false o (originOf f) e in
+        rw (ne-eqb (o * 36 + i) (originOf f * 36 + identifierOf f) (λ w. n (omega (arith, a .0)))) h
 
 -- demand 2: presenting answers as the reading does, and 209 exactly where the identifier was accepted from this origin before
 pub presenting-exactly : {s : Session} {files : List (List ℕ)} → Came s files → (file : List ℕ)

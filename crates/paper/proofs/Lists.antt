@@ -4,7 +4,7 @@ use native.Mathlib.Nat.{suc-mul, zero-mul, mul-div-cancel}
 use native.Mathlib.Omega.{arith}
 use mathlib.Core.List.{[], List, _∷_, _++_, append-assoc}
 use mathlib.Core.Path.{_≡_, refl, sym, ap, _∙_, ap₂}
-use lib.ListN.{length, take, drop, length-append, take-append-drop, length-drop}
+use lib.ListN.{length, getD, take, drop, length-append, take-append-drop, length-drop}
 use lib.Seq.{length-take-le, take-at, drop-at}
 use Rattle.paper.specs.Kinds.{kindOf}
 use Rattle.paper.specs.Reading.{parts}
@@ -70,3 +70,9 @@ kind-numbered n (x ∷ r) h = refl
 pub front-numbered : (n : ℕ) (r : List ℕ) → 87 ≤ length r → take 87 (numbered n r) ≡ take 87 r
 unfolding numbered
 front-numbered n r h = take-at (take 87 r) (spelled 7 n) 87 (length-take-le 87 r h)
+
+-- a field of one byte
+pub one-of : (r : List ℕ) (i : ℕ) → i < length r → take 1 (drop i r) ≡ getD r i 0 ∷ []
+one-of [] i h = absurd (omega arith)
+one-of (x ∷ r) zero h = refl
+one-of (x ∷ r) (suc i) h = one-of r i (omega arith)

@@ -18,7 +18,7 @@ use Rattle.paper.specs.Writing.{spelled, blanks, numbered, batchControlO
 use Rattle.paper.specs.Trays.{batchesAfter, individualsAfter, zeroed}
 use Rattle.paper.specs.Demands.{Tidy}
 use Rattle.paper.proofs.Tests.{T-of, same→eq}
-use Rattle.paper.proofs.Lists.{length-spelled}
+use Rattle.paper.proofs.Lists.{length-spelled, one-of}
 use Rattle.paper.proofs.Digits.{spells-spelled, spelled-mod}
 use Rattle.paper.proofs.Accepted.{ControlRead, TotalRead}
 
@@ -132,10 +132,6 @@ kind-byte b = go (eqb b 49) (eqb b 53) (eqb b 54) (eqb b 55) (eqb b 56) (eqb b 5
     go false false false false false true p q = (λ h. cc, λ h. lift q)
     go false false false false false false p q = (λ h. cc, λ h. cc)
 
-pub first-byte : (r : List ℕ) → length r ≡ 94 → take 1 r ≡ getD r 0 0 ∷ []
-first-byte [] l = absurd (omega arith)
-first-byte (x ∷ r) l = refl
-
 pub cut54 : (r : List ℕ) → take 54 r ≡ take 1 r ++ field r 2 4 ++ field r 5 10 ++ field r 11 20 ++ field r 21 32 ++ field r 33 44 ++ field r 45 54
 cut54 r =
     take-add 44 10 r
@@ -170,7 +166,7 @@ module _ (r : List ℕ) (l : length r ≡ 94) where
   unfolding batchControlOf normal kindOf numbered
   control-normal b n h t lh k c =
       let of : (a m : ℕ) → a + m ≤ 87 → take m (drop a (take 87 h ++ spelled 7 b)) ≡ take m (drop a h) = λ a m q. field-front a m h (spelled 7 b) q (omega arith) in
-      (sym (first-byte r l ∙ ap (λ (x : ℕ). x ∷ []) (kind-byte (getD r 0 0) .0 k))
+      (sym (one-of r 0 (omega arith) ∙ ap (λ (x : ℕ). x ∷ []) (kind-byte (getD r 0 0) .0 k))
       ⊕ (of 1 3 (omega arith) ∙ sym (same→eq (field r 2 4) (field h 2 4) (c .service)))
       ⊕ part-spelled 4 6 (t .records) (omega arith) (c .records)
       ⊕ part-spelled-mod 10 10 (t .destinations) (omega arith) (c .destinations)
@@ -185,7 +181,7 @@ module _ (r : List ℕ) (l : length r ≡ 94) where
   pub total-normal : (b n all count : ℕ) (t : Tally) → kindOf r ≡ FileControl → TotalRead all count t r → fileControlOf all count t ≡ normal FileControl b n r
   unfolding fileControlOf normal kindOf
   total-normal b n all count t k c =
-      (sym (first-byte r l ∙ ap (λ (x : ℕ). x ∷ []) (kind-byte (getD r 0 0) .1 k))
+      (sym (one-of r 0 (omega arith) ∙ ap (λ (x : ℕ). x ∷ []) (kind-byte (getD r 0 0) .1 k))
       ⊕ part-spelled 1 6 count (omega arith) (c .batches)
       ⊕ part-spelled 7 6 (tens all) (omega arith) (c .blocks)
       ⊕ part-spelled 13 8 (t .records) (omega arith) (c .records)

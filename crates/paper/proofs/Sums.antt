@@ -8,9 +8,9 @@ use mathlib.Core.Path.{_≡_, refl, sym, ap, _∙_, ap₂}
 use lib.Dec.{eqb, eqb→eq}
 use lib.IntN.{ℤ, pos, _+ℤ_, +ℤ-assoc, +ℤ-idr, +ℤ-idl, +ℤ-comm, +ℤ-invr, +ℤ-invl}
 use lib.ListN.{length}
+use borrow.Author.Tests.{ne-eqb, eqb-false}
 use Rattle.paper.specs.Postings.{Posting, signed, effect, position, count, sent, received}
 use Rattle.paper.specs.Demands.{sumTo}
-use Rattle.paper.proofs.Tests.{eqb-false, eqb-ne}
 
 -- (a + b) + (c + d) is (a + c) + (b + d)
 pub cross : (a b c d : ℤ) → (a +ℤ b) +ℤ (c +ℤ d) ≡ (a +ℤ c) +ℤ (b +ℤ d)
@@ -39,7 +39,7 @@ only s z e = cond (eqb e s) z (pos 0)
 pub sumTo-none : (n s : ℕ) (z : ℤ) → n ≤ s → sumTo n (only s z) ≡ pos 0
 unfolding sumTo only
 sumTo-none zero s z h = refl
-sumTo-none (suc n) s z h = rw (sumTo-none n s z (omega arith), eqb-false n s (omega arith)) refl
+sumTo-none (suc n) s z h = rw (sumTo-none n s z (omega arith), ne-eqb n s (omega arith)) refl
 
 pub sumTo-only : (n s : ℕ) (z : ℤ) → s < n → sumTo n (only s z) ≡ z
 unfolding sumTo only
@@ -48,7 +48,7 @@ sumTo-only (suc n) s z h = go (eqb n s) refl (sumTo-only n s z)
   where
     go : (b : Bool) → eqb n s ≡ b → (s < n → sumTo n (only s z) ≡ z) → sumTo (suc n) (only s z) ≡ z
     go true e r = let q : n ≡ s = eqb→eq n s (rw e tt) in rw (e, sumTo-none n s z (omega arith)) (+ℤ-idl z)
-    go false e r = let ne : n ≡ s → ⊥ = eqb-ne n s e in rw e (+ℤ-idr (sumTo n (only s z)) ∙ r (omega arith))
+    go false e r = let ne : n ≡ s → ⊥ = eqb-false n s e in rw e (+ℤ-idr (sumTo n (only s z)) ∙ r (omega arith))
 
 pub signed-not : (b : Bool) (a : ℕ) → signed b a +ℤ signed (not b) a ≡ pos 0
 unfolding signed

@@ -1,10 +1,9 @@
 -- Tests as facts: what a Bool that came out true says.
 use Prim.Native.Nat.{ℕ, _≤_}
-use mathlib.Core.Path.{_≡_, refl, sym, _∙_}
 use mathlib.Core.Bool.{Bool, true, false, _&&_, _||_}
-use mathlib.Core.List.{List, [], _∷_}
-use native.Mathlib.Omega.{arith}
-use lib.Dec.{T, eqb, leb, eqb→eq, eqb-refl, leb→le}
+use mathlib.Core.List.{[], List, _∷_}
+use mathlib.Core.Path.{_≡_, refl}
+use lib.Dec.{eqb, leb, T, leb→le, eqb→eq}
 use Rattle.paper.specs.Fields.{within, same}
 
 pub and-l : (a b : Bool) → T (a && b) → T a
@@ -35,16 +34,3 @@ same→eq [] [] t = refl
 same→eq [] (y ∷ ys) t = absurd t
 same→eq (x ∷ xs) [] t = absurd t
 same→eq (x ∷ xs) (y ∷ ys) t = λ i. eqb→eq x y (and-l (eqb x y) (same xs ys) t) i ∷ same→eq xs ys (and-r (eqb x y) (same xs ys) t) i
-
-pub eqb-true : (n : ℕ) → eqb n n ≡ true
-eqb-true n = of-T (eqb n n) (eqb-refl n)
-
-pub eqb-false : (m n : ℕ) → (m ≡ n → ⊥) → eqb m n ≡ false
-eqb-false m n h = go (eqb m n) refl
-  where
-    go : (b : Bool) → eqb m n ≡ b → b ≡ false
-    go true e = absurd (h (eqb→eq m n (T-of e)))
-    go false e = refl
-
-pub eqb-ne : (m n : ℕ) → eqb m n ≡ false → m ≡ n → ⊥
-eqb-ne m n e q = let z : true ≡ false = sym (rw q (eqb-true n)) ∙ e in let w : _≡_ {A = ℕ} 0 1 = cc in omega arith

@@ -10,7 +10,7 @@ use Rattle.paper.specs.Answers.{accepted, refused}
 use Rattle.paper.specs.Sessions.{Session, opening, presenting}
 use Rattle.paper.specs.Trays.{strip}
 use Rattle.paper.specs.CaseL.{lines, caseL, empty, put}
-use Rattle.paper.specs.Claims.{reads, opens, presents, holds, extracts, builds, strips, Row, case, wrote, gave}
+use Rattle.paper.specs.Claims.{characters, reads, opens, presents, holds, extracts, builds, strips, Row, case, wrote, gave}
 use Rattle.paper.specs.Marked.{rules}
 
 -- all entities but 403
@@ -38,6 +38,8 @@ beyond =
     -- records are posted only where the file control was seen
     case 14 (presents newSession (take 846 caseL) (refused 17 9) newSession) ∷
     case 14 (presents newSession (put 9 32 "000000052501" caseL) (refused 17 9) newSession) ∷
+    -- characters: that is 57
+    case 15 (characters 57) ∷
     -- length
     case 15 (reads (rules Pesos) (drop 1 empty) (refused 201 0)) ∷
     case 15 (reads (rules Pesos) (take 94 empty) (refused 201 0)) ∷

@@ -1,18 +1,25 @@
 -- Questions put to the definitions, each with the answer that is claimed.
-use Prim.Native.Nat.{ℕ}
+use Prim.Native.Nat.{ℕ, zero, suc, _+_}
 use mathlib.Core.Path.{_≡_}
-use mathlib.Core.Bool.{true, false}
+use mathlib.Core.Bool.{true, false, cond}
 use mathlib.Core.List.{List, [], _∷_}
 use lib.ListN.{getD, replicate}
 use Rattle.paper.specs.declared.rules.Rules.{Rules}
 use Rattle.paper.specs.declared.rules.Currency.{Currency}
 use Rattle.paper.specs.declared.ledger.Cell.{Cell}
 use Rattle.paper.specs.Answers.{Said, accepted, refused}
+use Rattle.paper.specs.Fields.{good}
 use Rattle.paper.specs.Reading.{reading}
 use Rattle.paper.specs.Sessions.{Session, zeroCell, opening, presenting}
 use Rattle.paper.specs.Buffers.{Outcome, extracting, building, stripping}
 
+-- how many of the bytes below n are good
+unfoldable pub goodBelow : ℕ → ℕ
+goodBelow zero = 0
+goodBelow (suc n) = goodBelow n + cond (good n) 1 0
+
 pub data Claim : Type 0 where
+  characters : ℕ → Claim
   reads : Rules → List ℕ → Said → Claim
   opens : ℕ → Currency → List ℕ → Said → Claim
   presents : Session → List ℕ → Said → Session → Claim
@@ -22,6 +29,7 @@ pub data Claim : Type 0 where
   strips : Rules → List ℕ → List ℕ → Outcome → Claim
 
 abbrev pub Holds : Claim → Type 0
+Holds (characters n) = goodBelow 256 ≡ n
 Holds (reads rules file answer) = reading rules file ≡ answer
 Holds (opens date currency entities answer) = opening date currency entities .answer ≡ answer
 Holds (presents s file answer after) = presenting s file ≡ record { answer = answer; session = after }

@@ -1,0 +1,5 @@
+pub mod Ranges
+pub mod Part
+pub mod Scan
+pub mod Value
+pub mod Numbers

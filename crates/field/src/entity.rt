@@ -1,0 +1,56 @@
+// Entity fields: four digits for the entity, four for a branch that is not judged.
+ghost use mathlib.Core.Path.{_≡_};
+ghost use Prim.Native.Nat.{_+_, _<_};
+ghost use Rattle.paper.specs.Fields.{field};
+ghost use Rattle.paper.specs.Entities.{entityValue, ofCurrency, entityField, entity, onRoster};
+ghost use Rattle.field.specs.Part.{Inside};
+use crate::number;
+use paper::rules::Currency;
+
+fn entity_value(rec: &[u8], first: usize, last: usize) -> u64
+    requires { ⌜ Inside (now rec) first last ⌝ }
+    requires { ⌜ last ≡ first + 7 ⌝ }
+    ensures { λ r. ⌜ r ≡ entityValue (field (now (rec .entry)) first last) ⌝ }
+{
+    number::number(rec, first, first + 3)
+}
+
+pub fn of_currency(currency: Currency, rec: &[u8], first: usize, last: usize) -> bool
+    requires { ⌜ Inside (now rec) first last ⌝ }
+    requires { ⌜ last ≡ first + 7 ⌝ }
+    ensures { λ r. ⌜ r ≡ ofCurrency currency (field (now (rec .entry)) first last) ⌝ }
+{
+    let n = entity_value(rec, first, last);
+    match currency {
+        Currency::Pesos => number::within(1, 499, n),
+        Currency::Dollars => number::within(501, 999, n),
+    }
+}
+
+pub fn entity_field(rec: &[u8], first: usize, last: usize) -> bool
+    requires { ⌜ Inside (now rec) first last ⌝ }
+    requires { ⌜ last ≡ first + 7 ⌝ }
+    ensures { λ r. ⌜ r ≡ entityField (field (now (rec .entry)) first last) ⌝ }
+{
+    let pesos = of_currency(Currency::Pesos, rec, first, last);
+    let dollars = of_currency(Currency::Dollars, rec, first, last);
+    number::digits(rec, first, last) & (pesos | dollars)
+}
+
+// Dollars add 500 to the entity's number.
+pub fn entity(rec: &[u8], first: usize, last: usize) -> u64
+    requires { ⌜ Inside (now rec) first last ⌝ }
+    requires { ⌜ last ≡ first + 7 ⌝ }
+    ensures { λ r. ⌜ (r ≡ entity (field (now (rec .entry)) first last)) × (r < 500) ⌝ }
+{
+    entity_value(rec, first, last) % 500
+}
+
+pub fn on_roster(roster: &[bool; 500], rec: &[u8], first: usize, last: usize) -> bool
+    requires { ⌜ Inside (now rec) first last ⌝ }
+    requires { ⌜ last ≡ first + 7 ⌝ }
+    ensures { λ r. ⌜ r ≡ onRoster (now (roster .entry)) (field (now (rec .entry)) first last) ⌝ }
+{
+    let i = entity(rec, first, last) as usize;
+    roster[i]
+}

@@ -1,0 +1,99 @@
+// What a record is: its type, and the transaction code of an individual one.
+ghost use mathlib.Core.Path.{_≡_};
+ghost use Prim.Native.Nat.{_≤_};
+ghost use lib.ListN.{length};
+ghost use Rattle.paper.specs.Kinds.{kindOf, codeOf, known, isOrder, collects, pays, rejects};
+use crate::number;
+use paper::record::Code;
+use paper::record::Kind;
+
+pub fn kind(rec: &[u8]) -> Kind
+    requires { ⌜ 1 ≤ length (now rec) ⌝ }
+    ensures { λ r. ⌜ r ≡ kindOf (now (rec .entry)) ⌝ }
+{
+    match rec[0] {
+        b'1' => Kind::FileHeader,
+        b'5' => Kind::BatchHeader,
+        b'6' => Kind::Individual,
+        b'7' => Kind::Additional,
+        b'8' => Kind::BatchControl,
+        b'9' => Kind::FileControl,
+        _ => Kind::Other,
+    }
+}
+
+pub fn code(rec: &[u8]) -> Code
+    requires { ⌜ 3 ≤ length (now rec) ⌝ }
+    ensures { λ r. ⌜ r ≡ codeOf (now (rec .entry)) ⌝ }
+{
+    match number::number(rec, 2, 3) {
+        37 => Code::Order,
+        36 => Code::Rejection,
+        32 => Code::Reversal,
+        31 => Code::ReversalRejection,
+        _ => Code::Unknown,
+    }
+}
+
+pub fn known(code: Code) -> bool
+    ensures { λ r. ⌜ r ≡ known code ⌝ }
+{
+    match code {
+        Code::Order => true,
+        Code::Rejection => true,
+        Code::Reversal => true,
+        Code::ReversalRejection => true,
+        Code::Unknown => false,
+    }
+}
+
+pub fn is_order(code: Code) -> bool
+    ensures { λ r. ⌜ r ≡ isOrder code ⌝ }
+{
+    match code {
+        Code::Order => true,
+        Code::Rejection => false,
+        Code::Reversal => false,
+        Code::ReversalRejection => false,
+        Code::Unknown => false,
+    }
+}
+
+// The sender's position rises. A rejection returns a debit, so its sender collects too.
+pub fn collects(code: Code) -> bool
+    ensures { λ r. ⌜ r ≡ collects code ⌝ }
+{
+    match code {
+        Code::Order => true,
+        Code::Rejection => true,
+        Code::Reversal => false,
+        Code::ReversalRejection => false,
+        Code::Unknown => false,
+    }
+}
+
+// The sender's position falls.
+pub fn pays(code: Code) -> bool
+    ensures { λ r. ⌜ r ≡ pays code ⌝ }
+{
+    match code {
+        Code::Order => false,
+        Code::Rejection => false,
+        Code::Reversal => true,
+        Code::ReversalRejection => true,
+        Code::Unknown => false,
+    }
+}
+
+// The additional record is a 99, and after the others an 05.
+pub fn rejects(code: Code) -> bool
+    ensures { λ r. ⌜ r ≡ rejects code ⌝ }
+{
+    match code {
+        Code::Order => false,
+        Code::Rejection => true,
+        Code::Reversal => false,
+        Code::ReversalRejection => true,
+        Code::Unknown => false,
+    }
+}
