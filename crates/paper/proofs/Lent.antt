@@ -62,6 +62,10 @@ presenting-refused s file h = go (answerTo s file) h
     go (refused m q) e = refl
     go accepted e = absurd (refused-not (sym e))
 
+-- the whole reply then: the refusal, and the session as it was
+pub presenting-unchanged : (s : Session) (file : List ℕ) {n place : ℕ} → presenting s file .answer ≡ refused n place → presenting s file ≡ record { answer = refused n place; session = s }
+presenting-unchanged s file h = λ i. record { answer = h i; session = presenting-refused s file h i }
+
 -- ---- building
 
 -- the tests before the reading: 207, 201, 206
