@@ -2,7 +2,7 @@
 ghost use mathlib.Core.Path.{_≡_};
 ghost use Prim.Native.Nat.{_≤_};
 ghost use lib.ListN.{length};
-ghost use Rattle.paper.specs.Kinds.{kindOf, codeOf, known, isOrder, collects, pays, rejects};
+ghost use Rattle.paper.specs.Kinds.{kindOf, codeOf, known, isOrder, takes01, collects, pays, rejects};
 use crate::number;
 use paper::record::Code;
 use paper::record::Kind;
@@ -53,6 +53,19 @@ pub fn is_order(code: Code) -> bool
     match code {
         Code::Order => true,
         Code::Rejection => false,
+        Code::Reversal => false,
+        Code::ReversalRejection => false,
+        Code::Unknown => false,
+    }
+}
+
+// A receiver's reversal, or the rejection of one.
+pub fn takes01(code: Code) -> bool
+    ensures { λ r. ⌜ r ≡ takes01 code ⌝ }
+{
+    match code {
+        Code::Order => true,
+        Code::Rejection => true,
         Code::Reversal => false,
         Code::ReversalRejection => false,
         Code::Unknown => false,

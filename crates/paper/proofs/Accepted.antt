@@ -5,29 +5,30 @@ use native.Mathlib.Nat.{div-add-mod'}
 use native.Mathlib.Omega.{arith}
 use mathlib.Core.Bool.{Bool, true, false, _&&_, _||_}
 use mathlib.Core.List.{[], List, _∷_}
-use mathlib.Core.Logic.{_↔_}
-use mathlib.Core.Path.{_≡_, refl}
-use lib.Dec.{eqb, ltb, leb, T, leb→le, eqb→eq}
+use mathlib.Core.Logic.{_↔_, _⊎_, inl, inr}
+use mathlib.Core.Path.{_≡_, refl, sym, ap, _∙_}
+use lib.Dec.{eqb, ltb, T, eqb→eq}
 use lib.ListN.{length, take, drop}
 use Rattle.paper.specs.declared.record.Before.{Before}
 use Rattle.paper.specs.declared.record.Before.the-variants.{Nothing, Between, Opened, Flagged, Inside, Ended}
 use Rattle.paper.specs.declared.record.Kind.{Kind}
 use Rattle.paper.specs.declared.record.Kind.the-variants.{FileHeader, BatchHeader, Individual, Additional, BatchControl, FileControl, Other}
 use Rattle.paper.specs.declared.rules.Rules.{Rules}
-use Rattle.paper.specs.Answers.{Said, accepted, refused}
+use Rattle.paper.specs.Answers.{accepted, refused, andThen, require}
 use Rattle.paper.specs.Checks.{Check, fine, wrong, need, _also_}
-use Rattle.paper.specs.Fields.{field, every, good, digits, same, is, number, spells}
+use Rattle.paper.specs.Fields.{field, within, every, good, digits, same, is, number, spells}
 use Rattle.paper.specs.Dates.{dateField}
 use Rattle.paper.specs.Entities.{ofCurrency, entityField, onRoster}
 use Rattle.paper.specs.Kinds.{kindOf, codeOf, known, allowed}
 use Rattle.paper.specs.Records.{batchHeader, amountOf, counterGood, individual}
-use Rattle.paper.specs.Controls.{Tally, batchControl, tens, fileControl}
-use Rattle.paper.specs.Reading.{State, start, flag, next, fields, judged, finish, unlessWrong, readingFrom, parts, recordsOf, lengthGood, readingIf, reading}
+use Rattle.paper.specs.Controls.{Tally, batchControl, blocks, fileControl}
+use Rattle.paper.specs.Reading.{State, start, flag, next, fields, judged, finish, at, readingFrom, parts, recordsOf, lengthGood, reading}
 use Rattle.paper.specs.Postings.{count}
 use Rattle.paper.specs.Sessions.{listed}
 use Rattle.paper.specs.Writing.{joined}
-use Rattle.paper.specs.Extract.{before}
-use Rattle.paper.proofs.Tests.{and-l, and-r, T-of, of-T}
+use Rattle.paper.specs.Demands.{Reads, FirstFault}
+use Rattle.paper.proofs.Tests.{and-l, and-r, of-T, within-range}
+use Rattle.paper.proofs.Refusals.{refused-not, both-accept}
 use Rattle.paper.proofs.Lists.{Sized, joined-parts, sized-parts}
 
 -- ---- a chain of checks
@@ -52,44 +53,72 @@ need-T false n h = absurd (wrong-not-fine h)
 
 -- ---- the records of an accepted file, one by one
 
-abbrev pub Reads : Rules → State → List (List ℕ) → Type 0
-Reads rules s [] = s .before ≡ Ended
-Reads rules s (r ∷ rs) = (judged rules s r ≡ fine) × Reads rules (next s r) rs
+at-fine : (place : ℕ) (c : Check) → at place c ≡ accepted → c ≡ fine
+unfolding at
+at-fine place fine h = refl
+at-fine place (wrong n) h = absurd (refused-not h)
 
-pub after-fine : (c : Check) (n : ℕ) (a : Said) → unlessWrong c n a ≡ accepted → (c ≡ fine) × (a ≡ accepted)
-unfolding unlessWrong
-after-fine fine n a h = (refl, h)
-after-fine (wrong f) n a h = let z : _≡_ {A = ℕ} 0 1 = cc in absurd (omega arith)
-
-pub finish-ended : (b : Before) (n : ℕ) → finish b n ≡ accepted → b ≡ Ended
+finish-ended : (b : Before) (place : ℕ) → finish b place ≡ accepted → b ≡ Ended
 unfolding finish
-finish-ended Nothing n h = let z : _≡_ {A = ℕ} 0 1 = cc in absurd (omega arith)
-finish-ended Between n h = let z : _≡_ {A = ℕ} 0 1 = cc in absurd (omega arith)
-finish-ended Opened n h = let z : _≡_ {A = ℕ} 0 1 = cc in absurd (omega arith)
-finish-ended Flagged n h = let z : _≡_ {A = ℕ} 0 1 = cc in absurd (omega arith)
-finish-ended Inside n h = let z : _≡_ {A = ℕ} 0 1 = cc in absurd (omega arith)
-finish-ended Ended n h = refl
+finish-ended Nothing place h = absurd (refused-not h)
+finish-ended Between place h = absurd (refused-not h)
+finish-ended Opened place h = absurd (refused-not h)
+finish-ended Flagged place h = absurd (refused-not h)
+finish-ended Inside place h = absurd (refused-not h)
+finish-ended Ended place h = refl
 
-pub run-reads : (rules : Rules) (rs : List (List ℕ)) (s : State) → readingFrom rules s rs ≡ accepted → Reads rules s rs
+run-reads : (rules : Rules) (rs : List (List ℕ)) (s : State) → readingFrom rules s rs ≡ accepted → Reads rules s rs
 unfolding readingFrom
 run-reads rules [] s h = finish-ended (s .before) (s .counts .place) h
 run-reads rules (r ∷ rs) s h =
-    let p = after-fine (judged rules s r) (s .counts .place) (readingFrom rules (next s r) rs) h in
-    (p .0, run-reads rules rs (next s r) (p .1))
+    let p = both-accept (at (s .counts .place) (judged rules s r)) (readingFrom rules (next s r) rs) h in
+    (at-fine (s .counts .place) (judged rules s r) (p .0), run-reads rules rs (next s r) (p .1))
 
-pub reads-run : (rules : Rules) (rs : List (List ℕ)) (s : State) → Reads rules s rs → readingFrom rules s rs ≡ accepted
-unfolding readingFrom unlessWrong finish
+reads-run : (rules : Rules) (rs : List (List ℕ)) (s : State) → Reads rules s rs → readingFrom rules s rs ≡ accepted
+unfolding readingFrom andThen at finish
 reads-run rules [] s h = rw h refl
 reads-run rules (r ∷ rs) s h = rw (h .0) (reads-run rules rs (next s r) (h .1))
 
 -- the reading accepts exactly the files of good length whose records are each without fault and end with a 9
 pub accepted-exactly : (rules : Rules) (file : List ℕ) → (reading rules file ≡ accepted) ↔ (T (lengthGood (length file)) × Reads rules start (recordsOf file))
-unfolding reading readingIf
+unfolding reading andThen require
 accepted-exactly rules file = (there (lengthGood (length file)), λ h. rw (of-T (lengthGood (length file)) (h .0)) (reads-run rules (recordsOf file) start (h .1)))
   where
-    there : (b : Bool) → readingIf b rules file ≡ accepted → T b × Reads rules start (recordsOf file)
+    there : (b : Bool) → andThen (require b 201 0) (readingFrom rules start (recordsOf file)) ≡ accepted → T b × Reads rules start (recordsOf file)
     there true h = (tt, run-reads rules (recordsOf file) start h)
-    there false h = let z : _≡_ {A = ℕ} 0 1 = cc in absurd (omega arith)
+    there false h = absurd (refused-not h)
+
+-- ---- the first fault of a refused file
+
+finish-fault : (b : Before) (place : ℕ) {n p : ℕ} → finish b place ≡ refused n p → (b ≡ Ended → ⊥) × (n ≡ 17) × (p ≡ place)
+unfolding finish
+finish-fault Nothing place h = ((λ q. let z : _≡_ {A = ℕ} 0 1 = cc in omega arith), cc, cc)
+finish-fault Between place h = ((λ q. let z : _≡_ {A = ℕ} 0 1 = cc in omega arith), cc, cc)
+finish-fault Opened place h = ((λ q. let z : _≡_ {A = ℕ} 0 1 = cc in omega arith), cc, cc)
+finish-fault Flagged place h = ((λ q. let z : _≡_ {A = ℕ} 0 1 = cc in omega arith), cc, cc)
+finish-fault Inside place h = ((λ q. let z : _≡_ {A = ℕ} 0 1 = cc in omega arith), cc, cc)
+finish-fault Ended place h = absurd (refused-not (sym h))
+
+run-fault : (rules : Rules) (rs : List (List ℕ)) (s : State) {n place : ℕ} → readingFrom rules s rs ≡ refused n place → FirstFault rules s rs n place
+unfolding readingFrom andThen at
+run-fault rules [] s h = finish-fault (s .before) (s .counts .place) h
+run-fault rules (r ∷ rs) s {n} {place} h = go (judged rules s r) refl h (λ q. run-fault rules rs (next s r) q)
+  where
+    go : (c : Check) → judged rules s r ≡ c → andThen (at (s .counts .place) c) (readingFrom rules (next s r) rs) ≡ refused n place
+        → (readingFrom rules (next s r) rs ≡ refused n place → FirstFault rules (next s r) rs n place) → FirstFault rules s (r ∷ rs) n place
+    go fine e q later = inr (e, later q)
+    go (wrong m) e q later = let w : m ≡ n = cc in inl (e ∙ ap wrong w, cc)
+
+-- a refusal is 201 at 0 for a length that is not good, else the first fault's number at its place
+pub refused-named : (rules : Rules) (file : List ℕ) {n place : ℕ} → reading rules file ≡ refused n place
+    → ((lengthGood (length file) ≡ false) × (n ≡ 201) × (place ≡ 0)) ⊎ ((lengthGood (length file) ≡ true) × FirstFault rules start (recordsOf file) n place)
+unfolding reading andThen require
+refused-named rules file {n} {place} h = go (lengthGood (length file)) refl h
+  where
+    go : (b : Bool) → lengthGood (length file) ≡ b → andThen (require b 201 0) (readingFrom rules start (recordsOf file)) ≡ refused n place
+        → ((lengthGood (length file) ≡ false) × (n ≡ 201) × (place ≡ 0)) ⊎ ((lengthGood (length file) ≡ true) × FirstFault rules start (recordsOf file) n place)
+    go true e q = inr (e, run-fault rules (recordsOf file) start q)
+    go false e q = inl (e, cc, cc)
 
 -- ---- facts of one record, by its type
 
@@ -123,7 +152,7 @@ control-read header t r h = search (also-l, also-r, need-T) depth 12
 
 pub record TotalRead (all count : ℕ) (t : Tally) (r : List ℕ) : Type 0 where
   pub batches : T (spells (field r 2 7) count)
-  pub blocks : T (spells (field r 8 13) (tens all))
+  pub blocks : T (spells (field r 8 13) (blocks all))
   pub records : T (spells (field r 14 21) (t .records))
   pub destinations : T (spells (field r 22 31) (t .destinations % 10 ^ 10))
   pub debits : T (spells (field r 32 43) (t .debits))
@@ -214,7 +243,7 @@ first-header rules r rs h = go (kindOf r) (judged-facts rules start r (h .0) .or
     go : (k : Kind) → Follows Nothing k → k ≡ FileHeader
     go k file-begins = refl
 
--- Nothing stands unlessWrong a 9
+-- Nothing stands after a 9
 pub after-last : (rules : Rules) (s : State) (rs : List (List ℕ)) → s .before ≡ Ended → Reads rules s rs → rs ≡ []
 unfolding allowed
 after-last rules s [] e h = refl
@@ -234,27 +263,22 @@ pub record Accepted (rules : Rules) (file : List ℕ) : Type 0 where
   pub first : (rest : List (List ℕ)) × (recordsOf file ≡ take 94 file ∷ rest)
 
 pub accepted-facts : (rules : Rules) (file : List ℕ) → reading rules file ≡ accepted → Accepted rules file
-unfolding reading readingIf lengthGood recordsOf parts
-accepted-facts rules file h = go (lengthGood (length file)) refl
+unfolding lengthGood recordsOf parts
+accepted-facts rules file h =
+    let x = accepted-exactly rules file .0 h in
+    let w = within-range 188 940000 (length file) (and-l (within 188 940000 (length file)) (eqb (length file % 94) 0) (x .0)) in
+    let e : length file % 94 ≡ 0 = eqb→eq (length file % 94) 0 (and-r (within 188 940000 (length file)) (eqb (length file % 94) 0) (x .0)) in
+    let m : length file ≡ length file / 94 * 94 = omega (arith, div-add-mod' (length file) 94) in
+    record {
+      long = w .0;
+      short = w .1;
+      even = e;
+      reads = x .1;
+      sized = sized-parts 94 (length file / 94) file m;
+      whole = joined-parts 94 (length file / 94) file m;
+      first = cut (length file / 94) (omega arith);
+    }
   where
     cut : (n : ℕ) → 0 < n → (rest : List (List ℕ)) × (parts 94 n file ≡ take 94 file ∷ rest)
     cut zero p = absurd (omega arith)
     cut (suc n) p = (parts 94 n (drop 94 file), refl)
-
-    go : (b : Bool) → lengthGood (length file) ≡ b → Accepted rules file
-    go true e =
-        let t : T (leb 188 (length file) && leb (length file) 940000 && eqb (length file % 94) 0) = T-of e in
-        let a : 188 ≤ length file = leb→le 188 (length file) (and-l (leb 188 (length file)) (leb (length file) 940000) (and-l (leb 188 (length file) && leb (length file) 940000) (eqb (length file % 94) 0) t)) in
-        let b : length file ≤ 940000 = leb→le (length file) 940000 (and-r (leb 188 (length file)) (leb (length file) 940000) (and-l (leb 188 (length file) && leb (length file) 940000) (eqb (length file % 94) 0) t)) in
-        let c : length file % 94 ≡ 0 = eqb→eq (length file % 94) 0 (and-r (leb 188 (length file) && leb (length file) 940000) (eqb (length file % 94) 0) t) in
-        let m : length file ≡ length file / 94 * 94 = omega (arith, div-add-mod' (length file) 94) in
-        record {
-          long = a;
-          short = b;
-          even = c;
-          reads = run-reads rules (recordsOf file) start (rw e at h);
-          sized = sized-parts 94 (length file / 94) file m;
-          whole = joined-parts 94 (length file / 94) file m;
-          first = cut (length file / 94) (omega arith);
-        }
-    go false e = let q : refused 201 0 ≡ accepted = rw e at h in let z : _≡_ {A = ℕ} 0 1 = cc in absurd (omega arith)

@@ -17,13 +17,13 @@ use Rattle.paper.specs.Checks.{fine}
 use Rattle.paper.specs.Fields.{bytes, field, is}
 use Rattle.paper.specs.Kinds.{kindOf}
 use Rattle.paper.specs.Controls.{Tally, plus, withIndividual, withAdditional}
-use Rattle.paper.specs.Reading.{Counts, nothingCounted, counted, State, start, flag, standing, next, fields, parts, recordsOf, reading}
+use Rattle.paper.specs.Reading.{Counts, nothingCounted, counted, State, start, flag, beforeNext, next, fields, at, parts, recordsOf, reading}
 use Rattle.paper.specs.Writing.{blanks, joined, numbered, batchControlOf, fileControlOf, owed, settled, owedBefore, settledBefore, ending, withControls, closing}
 use Rattle.paper.specs.Trays.{trayRecords, batchesAfter, individualsAfter, numberedBy, numbering, build, zeroed, marked, stripped, strip}
-use Rattle.paper.specs.Demands.{AsBuilt}
+use Rattle.paper.specs.Demands.{Reads, AsBuilt}
 use Rattle.paper.proofs.Lists.{Sized, sized-append, records-joined, length-spelled, length-numbered, kind-numbered}
 use Rattle.paper.proofs.Sums.{own}
-use Rattle.paper.proofs.Accepted.{Reads, control-read, total-read, Follows, file-begins, batch-opens, file-ends, first-individual, its-additional, next-individual, batch-closes, judged-facts, first-header, after-last, accepted-facts}
+use Rattle.paper.proofs.Accepted.{control-read, total-read, Follows, file-begins, batch-opens, file-ends, first-individual, its-additional, next-individual, batch-closes, judged-facts, first-header, after-last, accepted-facts}
 use Rattle.paper.proofs.Normal.{normal, normals, numbered-zeroed, withIndividual-numbered, tidy-normal, normal-tidy, control-normal, total-normal}
 
 -- ---- the reader's counts and the writer's, side by side
@@ -35,7 +35,7 @@ record Beside (a c : Counts) : Type 0 where
   closed : a .closed ≡ settled (c .batches) c .closed
 
 -- inside a batch they have counted the same
-record Within (a c : Counts) : Type 0 where
+record Together (a c : Counts) : Type 0 where
   place : a .place ≡ c .place
   batches : a .batches ≡ c .batches
   batch : a .batch ≡ c .batch
@@ -47,9 +47,9 @@ record Within (a c : Counts) : Type 0 where
 abbrev Link : Before → Counts → Counts → Type 0
 Link Nothing a c = ⊥
 Link Between a c = Beside a c
-Link Opened a c = Within a c
-Link Flagged a c = Within a c
-Link Inside a c = Within a c
+Link Opened a c = Together a c
+Link Flagged a c = Together a c
+Link Inside a c = Together a c
 Link Ended a c = ⊥
 
 -- what the writer owes
@@ -68,7 +68,7 @@ abbrev Rebuilt : Rules → List (List ℕ) → Type 0
 Rebuilt rules rs = (s : State) (c : Counts) (n : ℕ) (w : Before) → s .before ≡ w → Link w (s .counts) c → Reads rules s rs
     → withControls c (numbering (c .batches) n (bodies rs)) ≡ owes w c ++ normals (c .batches) n rs
 
-link-flag : (x : Bool) (a c : Counts) → Within a c → Link (flag x) a c
+link-flag : (x : Bool) (a c : Counts) → Together a c → Link (flag x) a c
 unfolding flag
 link-flag true a c i = i
 link-flag false a c i = i
@@ -78,7 +78,7 @@ unfolding flag
 owes-flag true c = refl
 owes-flag false c = refl
 
-kind-zeroed : (r : List ℕ) → length r ≡ 94 → kindOf (zeroed r) ≡ kindOf r
+pub kind-zeroed : (r : List ℕ) → length r ≡ 94 → kindOf (zeroed r) ≡ kindOf r
 unfolding zeroed kindOf
 kind-zeroed [] l = absurd (omega arith)
 kind-zeroed (x ∷ r) l = refl
@@ -94,12 +94,12 @@ module _ (rules : Rules) (r : List ℕ) (rs : List (List ℕ)) (l : length r ≡
   numbered-kind m = kind-numbered m r (omega arith)
 
   step5 : kindOf r ≡ BatchHeader → Beside (s .counts) c → Reads rules (next s r) rs → withControls c (numbering (c .batches) n (bodies (r ∷ rs))) ≡ owed (c .batches) c ++ normals (c .batches) n (r ∷ rs)
-  unfolding withControls numbering numberedBy batchesAfter individualsAfter stripped marked normals normal owedBefore settledBefore next counted standing
+  unfolding withControls numbering numberedBy batchesAfter individualsAfter stripped marked normals normal owedBefore settledBefore next counted beforeNext
   step5 k i h =
       let m : ℕ = suc (c .batches) in
       let d : Counts = counted BatchHeader (settled (c .batches) c) (numbered m r) in
       let q : d .batches ≡ m = ap suc (settled-batches (c .batches) c) in
-      let link : Within (next s r .counts) d = rw k (record {
+      let link : Together (next s r .counts) d = rw k (record {
         place = ap (λ (x : ℕ). x + 1) (i .place);
         batches = ap suc (i .batches);
         batch = refl;
@@ -110,14 +110,14 @@ module _ (rules : Rules) (r : List ℕ) (rs : List (List ℕ)) (l : length r ≡
       }) in
       rw (k, kind-zeroed r l, k, numbered-zeroed m r l, numbered-kind m, k)
       (ap (λ (x : List (List ℕ)). owed (c .batches) c ++ numbered m r ∷ x)
-      (subst (λ (x : ℕ). withControls d (numbering x n (bodies rs)) ≡ normals x n rs) q (ih (next s r) d n Opened (ap (λ (x : Kind). standing x r) k) link h)))
+      (subst (λ (x : ℕ). withControls d (numbering x n (bodies rs)) ≡ normals x n rs) q (ih (next s r) d n Opened (ap (λ (x : Kind). beforeNext x r) k) link h)))
 
-  step6 : kindOf r ≡ Individual → Within (s .counts) c → Reads rules (next s r) rs → withControls c (numbering (c .batches) n (bodies (r ∷ rs))) ≡ normals (c .batches) n (r ∷ rs)
-  unfolding withControls numbering numberedBy batchesAfter individualsAfter stripped marked normals normal owedBefore settledBefore next counted standing
+  step6 : kindOf r ≡ Individual → Together (s .counts) c → Reads rules (next s r) rs → withControls c (numbering (c .batches) n (bodies (r ∷ rs))) ≡ normals (c .batches) n (r ∷ rs)
+  unfolding withControls numbering numberedBy batchesAfter individualsAfter stripped marked normals normal owedBefore settledBefore next counted beforeNext
   step6 k i h =
       let d : Counts = counted Individual c (numbered (suc n) r) in
       let x : Bool = is (field r 79 79) "1" in
-      let link : Within (next s r .counts) d = rw k (record {
+      let link : Together (next s r .counts) d = rw k (record {
         place = ap (λ (x : ℕ). x + 1) (i .place);
         batches = i .batches;
         batch = ap (λ (t : Tally). withIndividual t r) (i .batch) ∙ sym (withIndividual-numbered (c .batch) (suc n) r l);
@@ -128,13 +128,13 @@ module _ (rules : Rules) (r : List ℕ) (rs : List (List ℕ)) (l : length r ≡
       }) in
       rw (k, kind-zeroed r l, k, numbered-zeroed (suc n) r l, numbered-kind (suc n), k)
       (ap (λ (y : List (List ℕ)). numbered (suc n) r ∷ y)
-      (ih (next s r) d (suc n) (flag x) (ap (λ (y : Kind). standing y r) k) (link-flag x (next s r .counts) d link) h ∙ ap (λ (o : List (List ℕ)). o ++ normals (c .batches) (suc n) rs) (owes-flag x d)))
+      (ih (next s r) d (suc n) (flag x) (ap (λ (y : Kind). beforeNext y r) k) (link-flag x (next s r .counts) d link) h ∙ ap (λ (o : List (List ℕ)). o ++ normals (c .batches) (suc n) rs) (owes-flag x d)))
 
-  step7 : kindOf r ≡ Additional → Within (s .counts) c → Reads rules (next s r) rs → withControls c (numbering (c .batches) n (bodies (r ∷ rs))) ≡ normals (c .batches) n (r ∷ rs)
-  unfolding withControls numbering numberedBy batchesAfter individualsAfter stripped marked normals normal owedBefore settledBefore next counted standing
+  step7 : kindOf r ≡ Additional → Together (s .counts) c → Reads rules (next s r) rs → withControls c (numbering (c .batches) n (bodies (r ∷ rs))) ≡ normals (c .batches) n (r ∷ rs)
+  unfolding withControls numbering numberedBy batchesAfter individualsAfter stripped marked normals normal owedBefore settledBefore next counted beforeNext
   step7 k i h =
       let d : Counts = counted Additional c (numbered n r) in
-      let link : Within (next s r .counts) d = rw k (record {
+      let link : Together (next s r .counts) d = rw k (record {
         place = ap (λ (x : ℕ). x + 1) (i .place);
         batches = i .batches;
         batch = ap withAdditional (i .batch);
@@ -144,10 +144,10 @@ module _ (rules : Rules) (r : List ℕ) (rs : List (List ℕ)) (l : length r ≡
         long = i .long;
       }) in
       rw (k, kind-zeroed r l, k, numbered-zeroed n r l, numbered-kind n, k)
-      (ap (λ (y : List (List ℕ)). numbered n r ∷ y) (ih (next s r) d n Inside (ap (λ (y : Kind). standing y r) k) link h))
+      (ap (λ (y : List (List ℕ)). numbered n r ∷ y) (ih (next s r) d n Inside (ap (λ (y : Kind). beforeNext y r) k) link h))
 
-  step8 : kindOf r ≡ BatchControl → Within (s .counts) c → fields BatchControl rules s r ≡ fine → Reads rules (next s r) rs → withControls c (numbering (c .batches) n (bodies (r ∷ rs))) ≡ normals (c .batches) n (r ∷ rs)
-  unfolding stripped marked normals batchesAfter individualsAfter next counted standing fields owed settled
+  step8 : kindOf r ≡ BatchControl → Together (s .counts) c → fields BatchControl rules s r ≡ fine → Reads rules (next s r) rs → withControls c (numbering (c .batches) n (bodies (r ∷ rs))) ≡ normals (c .batches) n (r ∷ rs)
+  unfolding stripped marked normals batchesAfter individualsAfter next counted beforeNext fields owed settled
   step8 k i f h =
       let m : ℕ = i .some .0 in
       let e : c .batches ≡ suc m = i .some .1 in
@@ -159,7 +159,7 @@ module _ (rules : Rules) (r : List ℕ) (rs : List (List ℕ)) (l : length r ≡
       let own : owed (c .batches) c ≡ normal BatchControl (c .batches) n r ∷ [] =
       ap (λ (m : ℕ). owed m c) e
       ∙ ap (λ (x : List ℕ). x ∷ []) (ap₂ batchControlOf (i .header) (sym (i .batch)) ∙ control-normal r l (c .batches) n (s .counts .header) (s .counts .batch) (i .long) k (control-read (s .counts .header) (s .counts .batch) r f)) in
-      rw k (ih (next s r) c n Between (ap (λ (y : Kind). standing y r) k) link h ∙ ap (λ (o : List (List ℕ)). o ++ normals (c .batches) n rs) own)
+      rw k (ih (next s r) c n Between (ap (λ (y : Kind). beforeNext y r) k) link h ∙ ap (λ (o : List (List ℕ)). o ++ normals (c .batches) n rs) own)
 
   step9 : kindOf r ≡ FileControl → Beside (s .counts) c → fields FileControl rules s r ≡ fine → rs ≡ [] → withControls c (numbering (c .batches) n (bodies (r ∷ rs))) ≡ owed (c .batches) c ++ normals (c .batches) n (r ∷ rs)
   unfolding withControls numbering stripped marked normals ending fields
@@ -170,7 +170,7 @@ module _ (rules : Rules) (r : List ℕ) (rs : List (List ℕ)) (l : length r ≡
       ∙ total-normal r l (c .batches) n (s .counts .place + 1) (s .counts .batches) (s .counts .closed) k (total-read (s .counts .place + 1) (s .counts .batches) (s .counts .closed) r f)))
 
 rebuilt : (rules : Rules) (rs : List (List ℕ)) → Sized 94 rs → Rebuilt rules rs
-unfolding next standing
+unfolding next beforeNext
 rebuilt rules [] z s c n w e link h = absurd (subst (λ (x : Before). Link x (s .counts) c) (sym e ∙ h) link)
 rebuilt rules (r ∷ rs) z s c n w e link h =
     let j = judged-facts rules s r (h .0) in
@@ -185,7 +185,7 @@ rebuilt rules (r ∷ rs) z s c n w e link h =
     go w k next-individual q i f ih = step6 rules r rs (z .0) ih s c n q i (h .1)
     go w k its-additional q i f ih = step7 rules r rs (z .0) ih s c n q i (h .1)
     go w k batch-closes q i f ih = step8 rules r rs (z .0) ih s c n q i f (h .1)
-    go w k file-ends q i f ih = step9 rules r rs (z .0) ih s c n q i f (after-last rules (next s r) rs (ap (λ (x : Kind). standing x r) q) (h .1))
+    go w k file-ends q i f ih = step9 rules r rs (z .0) ih s c n q i f (after-last rules (next s r) rs (ap (λ (x : Kind). beforeNext x r) q) (h .1))
 
 -- ---- a file is its own normal form exactly when it is as built
 
@@ -246,14 +246,14 @@ module _ (rules : Rules) (head : List ℕ) (rs : List (List ℕ)) (z : Sized 94 
 
   -- what is built from the stripped file is the file's normal form
   build-strip : build head (strip (joined (head ∷ rs))) ≡ joined (head ∷ normals 0 0 rs)
-  unfolding build strip closing recordsOf trayRecords stripped start next nothingCounted counted standing marked owed settled
+  unfolding build strip closing recordsOf trayRecords stripped start next nothingCounted counted beforeNext marked owed settled
   build-strip =
       let c : Counts = counted FileHeader nothingCounted head in
       let link : Beside (next start head .counts) c = rw k (record { place = refl; batches = refl; closed = refl }) in
       ap (λ (l : List (List ℕ)). joined (head ∷ withControls c (numbering 0 0 (map (drop 2) (parts 96 (length (joined (stripped l)) / 96) (joined (stripped l))))))) (records-joined 94 (head ∷ rs) (omega arith) z)
       ∙ ap (λ (x : Kind). joined (head ∷ withControls c (numbering 0 0 (map (drop 2) (parts 96 (length (joined (marked x head ++ stripped rs)) / 96) (joined (marked x head ++ stripped rs))))))) k
       ∙ ap (λ (l : List (List ℕ)). joined (head ∷ withControls c (numbering 0 0 (map (drop 2) l)))) (records-joined 96 (stripped rs) (omega arith) (stripped-sized rs (z .1)))
-      ∙ ap (λ (l : List (List ℕ)). joined (head ∷ l)) (rebuilt rules rs (z .1) (next start head) c 0 Between (ap (λ (x : Kind). standing x head) k) link (h .1))
+      ∙ ap (λ (l : List (List ℕ)). joined (head ∷ l)) (rebuilt rules rs (z .1) (next start head) c 0 Between (ap (λ (x : Kind). beforeNext x head) k) link (h .1))
 
   -- it is the file exactly when the file is as built
   back-records : (build head (strip (joined (head ∷ rs))) ≡ joined (head ∷ rs)) ↔ AsBuilt 0 0 rs

@@ -41,10 +41,10 @@ owed-before-sized FileControl c h = tt
 owed-before-sized Other c h = tt
 
 -- the counts after a record that was written
-abbrev pub wrote : Kind → Counts → List ℕ → Counts
-wrote k c r = counted k (settledBefore k c) r
+abbrev pub afterWriting : Kind → Counts → List ℕ → Counts
+afterWriting k c r = counted k (settledBefore k c) r
 
-ready-after : (k : Kind) (c : Counts) (r : List ℕ) → length r ≡ 94 → Ready (c .batches) (c .header) → Ready (wrote k c r .batches) (wrote k c r .header)
+ready-after : (k : Kind) (c : Counts) (r : List ℕ) → length r ≡ 94 → Ready (c .batches) (c .header) → Ready (afterWriting k c r .batches) (afterWriting k c r .header)
 unfolding counted settledBefore
 ready-after FileHeader c r l h = h
 ready-after BatchHeader c r l h = l
@@ -59,7 +59,7 @@ unfolding withControls ending
 controls-sized [] c z h = sized-append 94 (owed (c .batches) c) _ (owed-sized (c .batches) c h) (length-fileControl _ _ _, tt)
 controls-sized (r ∷ rs) c z h =
     sized-append 94 (owedBefore (kindOf r) c) _ (owed-before-sized (kindOf r) c h)
-    (z .0, controls-sized rs (wrote (kindOf r) c r) (z .1) (ready-after (kindOf r) c r (z .0) h))
+    (z .0, controls-sized rs (afterWriting (kindOf r) c r) (z .1) (ready-after (kindOf r) c r (z .0) h))
 
 -- what closing gives is cut into the header, the records and their controls again
 pub closing-records : (header : List ℕ) (rs : List (List ℕ)) → length header ≡ 94 → Sized 94 rs
@@ -92,7 +92,7 @@ unfolding owed
 length-owed zero c = refl
 length-owed (suc n) c = refl
 
-owed-step : (k : Kind) (c : Counts) (r : List ℕ) → length (owedBefore k c) + owing (wrote k c r .batches) ≡ headers k + owing (c .batches)
+owed-step : (k : Kind) (c : Counts) (r : List ℕ) → length (owedBefore k c) + owing (afterWriting k c r .batches) ≡ headers k + owing (c .batches)
 unfolding owedBefore counted settledBefore
 owed-step FileHeader c r = refl
 owed-step BatchHeader c r = omega (arith, length-owed (c .batches) c)
@@ -106,8 +106,8 @@ pub length-controls : (rs : List (List ℕ)) (c : Counts) → length (withContro
 unfolding withControls ending headersOf
 length-controls [] c = length-append (owed (c .batches) c) _ ∙ omega (arith, length-owed (c .batches) c)
 length-controls (r ∷ rs) c =
-    length-append (owedBefore (kindOf r) c) (r ∷ withControls (wrote (kindOf r) c r) rs)
-    ∙ omega (arith, owed-step (kindOf r) c r, length-controls rs (wrote (kindOf r) c r))
+    length-append (owedBefore (kindOf r) c) (r ∷ withControls (afterWriting (kindOf r) c r) rs)
+    ∙ omega (arith, owed-step (kindOf r) c r, length-controls rs (afterWriting (kindOf r) c r))
 
 -- the length of what closing gives
 pub length-closing : (header : List ℕ) (rs : List (List ℕ)) → length header ≡ 94 → Sized 94 rs → length (closing header rs) ≡ (length rs + headersOf rs + 2) * 94

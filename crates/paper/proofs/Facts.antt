@@ -18,12 +18,13 @@ use Rattle.paper.specs.Fields.{field, within, every, good, digits, same,
 use Rattle.paper.specs.Entities.{entityValue, ofCurrency, entityField, entity, onRoster}
 use Rattle.paper.specs.Kinds.{kindOf, codeOf, known}
 use Rattle.paper.specs.Records.{fileHeader, amountOf, counterGood}
-use Rattle.paper.specs.Reading.{counted, State, start, flag, standing, next, fields, recordsOf, reading}
+use Rattle.paper.specs.Reading.{counted, State, start, flag, beforeNext, next, fields, at, recordsOf, reading}
 use Rattle.paper.specs.Sessions.{listed}
+use Rattle.paper.specs.Demands.{Reads}
 use Rattle.paper.proofs.Tests.{and-l, and-r, or-go, of-T, within-range, same→eq}
 use Rattle.paper.proofs.Lists.{Sized}
 use Rattle.paper.proofs.Digits.{number-bound}
-use Rattle.paper.proofs.Accepted.{Reads, IndividualRead, individual-read, BatchRead, batch-read, Follows, file-begins, batch-opens, file-ends, first-individual, its-additional, next-individual, batch-closes, judged-facts, accepted-facts}
+use Rattle.paper.proofs.Accepted.{IndividualRead, individual-read, BatchRead, batch-read, Follows, file-begins, batch-opens, file-ends, first-individual, its-additional, next-individual, batch-closes, judged-facts, accepted-facts}
 
 -- an entity of the session
 pub record Entity (rules : Rules) (f : List ℕ) : Type 0 where
@@ -94,7 +95,7 @@ individual-of rules header r n l b o =
     }
 
 all-facts : (rules : Rules) (rs : List (List ℕ)) (s : State) → Sized 94 rs → In rules (s .before) (s .counts .header) → Reads rules s rs → AllFacts rules rs
-unfolding next standing counted fields flag
+unfolding next beforeNext counted fields flag
 all-facts rules [] s z i h = tt
 all-facts rules (r ∷ rs) s z i h =
     let j = judged-facts rules s r (h .0) in
@@ -105,13 +106,13 @@ all-facts rules (r ∷ rs) s z i h =
     inside true x = x
     inside false x = x
 
-    go : (b : Before) (k : Kind) → Follows b k → In rules b (s .counts .header) → fields k rules s r ≡ fine → Facts rules k r × In rules (standing k r) (counted k (s .counts) r .header)
+    go : (b : Before) (k : Kind) → Follows b k → In rules b (s .counts .header) → fields k rules s r ≡ fine → Facts rules k r × In rules (beforeNext k r) (counted k (s .counts) r .header)
     go b k file-begins i f = (f, tt)
     go b k batch-opens i f = (batch-read rules r f, batch-read rules r f)
     go b k file-ends i f = (tt, tt)
-    go b k first-individual i f = (individual-of rules (s .counts .header) r (s .counts .number) (z .0) i (individual-read rules (s .counts .header) (s .counts .number) r f), inside (is (field r 79 79) "1") i)
+    go b k first-individual i f = (individual-of rules (s .counts .header) r (s .counts .counter) (z .0) i (individual-read rules (s .counts .header) (s .counts .counter) r f), inside (is (field r 79 79) "1") i)
     go b k its-additional i f = (tt, i)
-    go b k next-individual i f = (individual-of rules (s .counts .header) r (s .counts .number) (z .0) i (individual-read rules (s .counts .header) (s .counts .number) r f), inside (is (field r 79 79) "1") i)
+    go b k next-individual i f = (individual-of rules (s .counts .header) r (s .counts .counter) (z .0) i (individual-read rules (s .counts .header) (s .counts .counter) r f), inside (is (field r 79 79) "1") i)
     go b k batch-closes i f = (tt, tt)
 
 -- everything an accepted file says of its records
@@ -119,10 +120,10 @@ pub file-facts : (rules : Rules) (file : List ℕ) → reading rules file ≡ ac
 unfolding start
 file-facts rules file h = let a = accepted-facts rules file h in all-facts rules (recordsOf file) start (a .sized) tt (a .reads)
 
--- the order of types alone: each record may stand unlessWrong the one before it, and the last is a 9
+-- the order of types alone: each record may stand after the one before it, and the last is a 9
 abbrev pub Shaped : Before → List (List ℕ) → Type 0
 Shaped b [] = b ≡ Ended
-Shaped b (r ∷ rs) = Follows b (kindOf r) × Shaped (standing (kindOf r) r) rs
+Shaped b (r ∷ rs) = Follows b (kindOf r) × Shaped (beforeNext (kindOf r) r) rs
 
 shaped : (rules : Rules) (rs : List (List ℕ)) (s : State) → Reads rules s rs → Shaped (s .before) rs
 unfolding next
@@ -133,10 +134,10 @@ pub file-shaped : (rules : Rules) (file : List ℕ) → reading rules file ≡ a
 unfolding start
 file-shaped rules file h = shaped rules (recordsOf file) start (accepted-facts rules file h .reads)
 
--- so unlessWrong a 6 with 1 in position 79 comes a 7
+-- so after a 6 with 1 in position 79 comes a 7
 pub seven-follows : (b : Before) (r q : List ℕ) (rs : List (List ℕ)) → Shaped b (r ∷ q ∷ rs) → kindOf r ≡ Individual → T (is (field r 79 79) "1") → kindOf q ≡ Additional
-unfolding standing flag
-seven-follows b r q rs h e t = go (standing (kindOf r) r) (kindOf q) (h .1 .0) (ap (λ (k : Kind). standing k r) e ∙ ap flag (of-T (is (field r 79 79) "1") t))
+unfolding beforeNext flag
+seven-follows b r q rs h e t = go (beforeNext (kindOf r) r) (kindOf q) (h .1 .0) (ap (λ (k : Kind). beforeNext k r) e ∙ ap flag (of-T (is (field r 79 79) "1") t))
   where
     go : (b : Before) (k : Kind) → Follows b k → b ≡ Flagged → k ≡ Additional
     go b k file-begins x = cc

@@ -21,7 +21,7 @@ use Rattle.paper.specs.Kinds.{kindOf}
 use Rattle.paper.specs.Reading.{recordsOf}
 use Rattle.paper.specs.Postings.{Posting, posting, postedBy, senderAfter, postingsFrom, postings, position, count, sent, received}
 use Rattle.paper.specs.Sessions.{Session, zeroCell, newSession, refusedOpening, openingIf, opening, answerTo, cellAfter, cellsAfter, sessionAfter, presenting}
-use Rattle.paper.specs.Demands.{withAccepted, Came, opened, presented, postingsOf, sumTo}
+use Rattle.paper.specs.Demands.{withAccepted, Came, opened, presented, postingsOf, Agrees, sumTo}
 use Rattle.paper.proofs.Sums.{sumTo-same, AllWithin, within-append, positions-cancel, counts-add, position-append, count-append}
 
 -- ---- senders and destinations are below 500
@@ -62,12 +62,6 @@ within-files (f ∷ fs) = within-append (postings f) (postingsOf fs) (within-fro
 
 -- ---- the cells
 
--- a cell holds what postings say of entity e
-pub record Agrees (c : Cell) (e : ℕ) (ps : List Posting) : Type 0 where
-  pub position : c .position ≡ position e ps
-  pub sent : c .sent ≡ sent e ps
-  pub received : c .received ≡ received e ps
-
 -- the cells from entity e on
 abbrev AllAgree : List Cell → ℕ → List Posting → Type 0
 AllAgree [] e ps = Unit {0}
@@ -102,7 +96,7 @@ unfolding postingsOf
 postingsOf-snoc [] f = append-nil (postings f)
 postingsOf-snoc (x ∷ fs) f = ap (λ (l : List Posting). postings x ++ l) (postingsOf-snoc fs f) ∙ sym (append-assoc (postings x) (postingsOf fs) (postings f))
 
-record True (s : Session) (files : List (List ℕ)) : Type 0 where
+record Kept (s : Session) (files : List (List ℕ)) : Type 0 where
   cells : length (s .cells) ≡ 500
   agree : AllAgree (s .cells) 0 (postingsOf files)
 
@@ -117,25 +111,25 @@ opened-by P new date currency entities = go (isDate date) (every (within 1 499) 
     go true false = new 101 Pesos []
     go false b = new 101 Pesos []
 
-true-presented : (s : Session) (files : List (List ℕ)) (file : List ℕ) → True s files → True ((presenting s file) .session) (withAccepted ((presenting s file) .answer) files file)
+kept-presented : (s : Session) (files : List (List ℕ)) (file : List ℕ) → Kept s files → Kept ((presenting s file) .session) (withAccepted ((presenting s file) .answer) files file)
 unfolding presenting withAccepted sessionAfter
-true-presented s files file t = go (answerTo s file)
+kept-presented s files file t = go (answerTo s file)
   where
-    go : (a : Said) → True (sessionAfter a s file) (withAccepted a files file)
+    go : (a : Said) → Kept (sessionAfter a s file) (withAccepted a files file)
     go (refused n place) = t
     go accepted = record {
       cells = length-after (postings file) 0 (s .cells) ∙ t .cells;
       agree = rw (postingsOf-snoc files file) (after-agree (postings file) 0 (s .cells) (postingsOf files) (t .agree));
     }
 
-true-came : {s : Session} {files : List (List ℕ)} → Came s files → True s files
+kept-came : {s : Session} {files : List (List ℕ)} → Came s files → Kept s files
 unfolding newSession postingsOf
-true-came (opened date currency entities) =
-    opened-by (λ s. True s []) (λ d c es. record { cells = length-replicate 500 zeroCell; agree = new-agree 500 0 }) date currency entities
-true-came (presented c file) = true-presented _ _ file (true-came c)
+kept-came (opened date currency entities) =
+    opened-by (λ s. Kept s []) (λ d c es. record { cells = length-replicate 500 zeroCell; agree = new-agree 500 0 }) date currency entities
+kept-came (presented c file) = kept-presented _ _ file (kept-came c)
 
 pub cells-came : {s : Session} {files : List (List ℕ)} → Came s files → length (s .cells) ≡ 500
-cells-came c = true-came c .cells
+cells-came c = kept-came c .cells
 
 agree-at : (cs : List Cell) (e i : ℕ) (ps : List Posting) → AllAgree cs e ps → i < length cs → Agrees (getD cs i zeroCell) (e + i) ps
 agree-at [] e i ps h l = absurd (omega arith)
@@ -147,7 +141,7 @@ agree-at (c ∷ cs) e (suc i) ps h l =
 -- each entity's position and counts are the sums over the records of the files accepted when presented
 pub figures : {s : Session} {files : List (List ℕ)} → Came s files → (e : ℕ) → e < 500 → Agrees (getD (s .cells) e zeroCell) e (postingsOf files)
 figures {s} {files} c e l =
-    let t = true-came c in
+    let t = kept-came c in
     subst (λ (n : ℕ). Agrees (getD (s .cells) e zeroCell) n (postingsOf files)) (zero-add e) (agree-at (s .cells) 0 e (postingsOf files) (t .agree) (omega (arith, t .cells)))
 
 -- positions add up to zero

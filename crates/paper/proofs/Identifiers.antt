@@ -1,25 +1,26 @@
 -- 209 is answered exactly for an identifier already accepted from this origin; and what the answer to a presentation depends on.
-use Prim.Native.Nat.{ℕ, _+_, _*_, _≤_, _<_}
+use Prim.Native.Nat.{ℕ, _+_, _*_, _-_, _≤_, _<_}
 use native.Mathlib.Omega.{arith}
-use mathlib.Core.Bool.{Bool, true, false, cond, _||_}
+use mathlib.Core.Bool.{Bool, true, false, cond, not, _||_}
 use mathlib.Core.List.{[], List, _∷_, _++_, map}
+use mathlib.Core.Logic.{⊎-elim, _⊎_, inl, inr}
 use mathlib.Core.Path.{_≡_, refl, sym, ap, _∙_, subst, ap₂}
-use lib.Dec.{eqb, leb, T, leb→le, le→leb, eqb→eq}
+use lib.Dec.{eqb, leb, T, eqb→eq}
 use lib.ListN.{length, getD, take, set, length-replicate, length-set, getD-replicate}
 use lib.Seq.{length-take-le, getD-set-same, getD-set-other, getD-take}
-use borrow.Author.Tests.{eq-eqb, ne-eqb, eqb-false}
+use borrow.Author.Tests.{eq-eqb, ne-eqb, eqb-false, le-leb, lt-leb}
 use Rattle.paper.specs.declared.record.Kind.{Kind}
 use Rattle.paper.specs.declared.rules.Rules.{Rules}
-use Rattle.paper.specs.Answers.{Said, accepted, refused}
+use Rattle.paper.specs.Answers.{Said, accepted, refused, andThen, require}
 use Rattle.paper.specs.Checks.{fine}
-use Rattle.paper.specs.Fields.{field, among, every, digit, capital}
+use Rattle.paper.specs.Fields.{field, among, every, digit, capital, same}
 use Rattle.paper.specs.Records.{fileHeader}
-use Rattle.paper.specs.Reading.{start, fields, reading}
-use Rattle.paper.specs.Sessions.{Session, newSession, originOf, identifierIf, identifierOf, keyOf, unlessUsed, answerTo, sessionAfter, presenting}
-use Rattle.paper.specs.Demands.{withAccepted, Came, opened, presented, identifiersFrom}
-use Rattle.paper.proofs.Tests.{and-l, or-go, T-of, of-T, within-range}
+use Rattle.paper.specs.Reading.{start, fields, at, reading}
+use Rattle.paper.specs.Sessions.{Session, newSession, originOf, identifierIf, identifierOf, keyOf, answerTo, sessionAfter, presenting}
+use Rattle.paper.specs.Demands.{Reads, withAccepted, Came, opened, presented, identifiersFrom}
+use Rattle.paper.proofs.Tests.{and-l, or-go, T-of, within-range}
 use Rattle.paper.proofs.Lists.{one-of}
-use Rattle.paper.proofs.Accepted.{also-l, also-r, need-T, Reads, judged-facts, first-header, accepted-facts}
+use Rattle.paper.proofs.Accepted.{also-l, also-r, need-T, judged-facts, first-header, accepted-facts}
 use Rattle.paper.proofs.Figures.{entity-lt, opened-by}
 use Rattle.paper.proofs.Own.{presented-new}
 
@@ -37,23 +38,35 @@ header-read rules file h =
     let rd : Reads rules start (take 94 file ∷ a .first .0) = rw (a .first .1) at (a .reads) in
     subst (λ (k : Kind). fields k rules start (take 94 file) ≡ fine) (first-header rules (take 94 file) (a .first .0) rd) (judged-facts rules start (take 94 file) (rd .0) .fields)
 
-identifier-byte : (b : ℕ) → T (digit b || capital b) → identifierIf (leb b 57) b < 36
+-- a digit is 0 to 9, a capital 10 to 35
+identifier-cases : (b : ℕ) → T (digit b || capital b)
+    → ((48 ≤ b) × (b ≤ 57) × (identifierIf (leb b 57) b ≡ b - 48)) ⊎ ((65 ≤ b) × (b ≤ 90) × (identifierIf (leb b 57) b ≡ b - 55))
 unfolding digit capital identifierIf
-identifier-byte b t = go (leb b 57) refl
-  where
-    go : (x : Bool) → leb b 57 ≡ x → identifierIf x b < 36
-    go true e = let l : b ≤ 57 = leb→le b 57 (T-of e) in omega arith
-    go false e = or-go (digit b) (capital b) t
-        (λ d. let r = within-range 48 57 b d in let z : true ≡ false = sym (of-T (leb b 57) (le→leb b 57 (r .1))) ∙ e in let w : _≡_ {A = ℕ} 0 1 = cc in omega arith)
-        (λ c. let r = within-range 65 90 b c in omega arith)
+identifier-cases b t = or-go (digit b) (capital b) t
+    (λ d. let r = within-range 48 57 b d in inl (r .0, r .1, rw (le-leb b 57 (r .1))))
+    (λ c. let r = within-range 65 90 b c in inr (r .0, r .1, rw (lt-leb b 57 (omega arith))))
 
-pub identifier-lt : (rules : Rules) (file : List ℕ) → reading rules file ≡ accepted → identifierOf file < 36
-unfolding identifierOf every
-identifier-lt rules file h =
+-- position 34 of an accepted file
+identifier-good : (rules : Rules) (file : List ℕ) → reading rules file ≡ accepted → T (digit (getD file 33 0) || capital (getD file 33 0))
+unfolding every
+identifier-good rules file h =
     let a = accepted-facts rules file h in
     let l : length (take 94 file) ≡ 94 = length-take-le 94 file (omega (arith, a .long)) in
     let byte : field (take 94 file) 34 34 ≡ getD file 33 0 ∷ [] = one-of (take 94 file) 33 (omega (arith, l)) ∙ ap (λ (x : ℕ). x ∷ []) (getD-take 94 file 33 0 (omega arith)) in
-    identifier-byte (getD file 33 0) (and-l (digit (getD file 33 0) || capital (getD file 33 0)) true (rw byte at (header-identifier rules (take 94 file) (header-read rules file h))))
+    and-l (digit (getD file 33 0) || capital (getD file 33 0)) true (rw byte at (header-identifier rules (take 94 file) (header-read rules file h)))
+
+pub identifier-lt : (rules : Rules) (file : List ℕ) → reading rules file ≡ accepted → identifierOf file < 36
+unfolding identifierOf
+identifier-lt rules file h = ⊎-elim (λ c. omega arith) (λ c. omega arith) (identifier-cases (getD file 33 0) (identifier-good rules file h))
+
+-- two files that the reading accepts have the same identifier only where position 34 is the same
+pub identifier-own : (rules others : Rules) (f g : List ℕ) → reading rules f ≡ accepted → reading others g ≡ accepted → identifierOf f ≡ identifierOf g → getD f 33 0 ≡ getD g 33 0
+unfolding identifierOf
+identifier-own rules others f g p q h =
+    ⊎-elim (λ c. ⊎-elim (λ d. omega arith) (λ d. omega arith) of-g) (λ c. ⊎-elim (λ d. omega arith) (λ d. omega arith) of-g) (identifier-cases (getD f 33 0) (identifier-good rules f p))
+  where
+    of-g : ((48 ≤ getD g 33 0) × (getD g 33 0 ≤ 57) × (identifierIf (leb (getD g 33 0) 57) (getD g 33 0) ≡ getD g 33 0 - 48)) ⊎ ((65 ≤ getD g 33 0) × (getD g 33 0 ≤ 90) × (identifierIf (leb (getD g 33 0) 57) (getD g 33 0) ≡ getD g 33 0 - 55))
+    of-g = identifier-cases (getD g 33 0) (identifier-good others g q)
 
 abbrev AllIdentified : List (List ℕ) → Type 0
 AllIdentified [] = Unit {0}
@@ -70,7 +83,7 @@ identified-came (presented {s} {files} c file) = go (answerTo s file) refl (iden
   where
     go : (a : Said) → answerTo s file ≡ a → AllIdentified files → AllIdentified (withAccepted a files file)
     go (refused n place) e h = h
-    go accepted e h = identified-snoc files file h (identifier-lt (s .rules) file (presented-new (reading (s .rules) file) _ e .0))
+    go accepted e h = identified-snoc files file h (identifier-lt (s .rules) file (presented-new s file e .0))
 
 -- ---- the marks are the keys of the files accepted
 
@@ -113,7 +126,7 @@ marks-came (presented {s} {files} c file) k l = go (answerTo s file) refl (marks
     go : (a : Said) → answerTo s file ≡ a → getD (s .used) k false ≡ among (map keyOf files) k → getD (sessionAfter a s file .used) k false ≡ among (map keyOf (withAccepted a files file)) k
     go (refused n place) e h = h
     go accepted e h =
-        let m : key < 18000 = key-lt file (identifier-lt (s .rules) file (presented-new (reading (s .rules) file) _ e .0)) in
+        let m : key < 18000 = key-lt file (identifier-lt (s .rules) file (presented-new s file e .0)) in
         mark (eqb k key) refl m h ∙ sym (ap (λ (ks : List ℕ). among ks k) (map-snoc files) ∙ among-snoc (map keyOf files) key k)
       where
         map-snoc : (fs : List (List ℕ)) → map keyOf (fs ++ file ∷ []) ≡ map keyOf fs ++ key ∷ []
@@ -140,17 +153,20 @@ keys-identifiers o i (f ∷ fs) l a = go (eqb o (originOf f)) refl (keys-identif
 
 -- demand 2: presenting answers as the reading does, and 209 exactly where the identifier was accepted from this origin before
 pub presenting-exactly : {s : Session} {files : List (List ℕ)} → Came s files → (file : List ℕ)
-    → (presenting s file) .answer ≡ unlessUsed (reading (s .rules) file) (among (identifiersFrom (originOf file) files) (identifierOf file))
-unfolding presenting answerTo unlessUsed keyOf
+    → (presenting s file) .answer ≡ andThen (reading (s .rules) file) (require (not (among (identifiersFrom (originOf file) files) (identifierOf file))) 209 0)
+unfolding presenting answerTo andThen keyOf
 presenting-exactly {s} {files} c file = go (reading (s .rules) file) refl
   where
-    go : (a : Said) → reading (s .rules) file ≡ a → unlessUsed a (getD (s .used) (keyOf file) false) ≡ unlessUsed a (among (identifiersFrom (originOf file) files) (identifierOf file))
+    new : ℕ → Bool → Said
+    new place used = require (not used) 209 place
+
+    go : (a : Said) → reading (s .rules) file ≡ a → andThen a (new 0 (getD (s .used) (keyOf file) false)) ≡ andThen a (new 0 (among (identifiersFrom (originOf file) files) (identifierOf file)))
     go (refused n place) e = refl
     go accepted e =
         let l = identifier-lt (s .rules) file e in
-        ap (unlessUsed accepted) (marks-came c (keyOf file) (key-lt file l) ∙ keys-identifiers (originOf file) (identifierOf file) files l (identified-came c))
+        ap (new 0) (marks-came c (keyOf file) (key-lt file l) ∙ keys-identifiers (originOf file) (identifierOf file) files l (identified-came c))
 
--- demand 3: the answer depends on the file, the session's date, currency and roster, and the identifiers already accepted from the file's origin
+-- demand 3: the answer depends on the file, the session's date, currency and roster, and which identifiers were already accepted from the file's origin
 pub answer-depends : {s t : Session} {fs gs : List (List ℕ)} → Came s fs → Came t gs → (file : List ℕ) → s .rules ≡ t .rules
-    → identifiersFrom (originOf file) fs ≡ identifiersFrom (originOf file) gs → (presenting s file) .answer ≡ (presenting t file) .answer
-answer-depends c d file r i = presenting-exactly c file ∙ rw (r, i) (sym (presenting-exactly d file))
+    → ((i : ℕ) → among (identifiersFrom (originOf file) fs) i ≡ among (identifiersFrom (originOf file) gs) i) → (presenting s file) .answer ≡ (presenting t file) .answer
+answer-depends c d file r same = presenting-exactly c file ∙ rw (r, same (identifierOf file)) (sym (presenting-exactly d file))

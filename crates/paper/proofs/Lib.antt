@@ -1,4 +1,5 @@
 pub mod Tests
+pub mod Refusals
 pub mod Marked
 pub mod Beyond
 pub mod Lists
@@ -20,3 +21,4 @@ pub mod Apart
 pub mod Lent
 pub mod Numbers
 pub mod Picking
+pub mod Rebuilding

@@ -12,7 +12,7 @@ use Rattle.paper.specs.declared.record.Kind.the-variants.{FileHeader, Ba
 use Rattle.paper.specs.Fields.{bytes, field, spells}
 use Rattle.paper.specs.Kinds.{kind, kindOf, codeOf}
 use Rattle.paper.specs.Records.{amountOf}
-use Rattle.paper.specs.Controls.{Tally, withIndividual, tens}
+use Rattle.paper.specs.Controls.{Tally, withIndividual, blocks}
 use Rattle.paper.specs.Postings.{count}
 use Rattle.paper.specs.Writing.{spelled, blanks, numbered, batchControlOf, fileControlOf}
 use Rattle.paper.specs.Trays.{batchesAfter, individualsAfter, zeroed}
@@ -183,7 +183,7 @@ module _ (r : List ℕ) (l : length r ≡ 94) where
   total-normal b n all count t k c =
       (sym (one-of r 0 (omega arith) ∙ ap (λ (x : ℕ). x ∷ []) (kind-byte (getD r 0 0) .1 k))
       ⊕ part-spelled 1 6 count (omega arith) (c .batches)
-      ⊕ part-spelled 7 6 (tens all) (omega arith) (c .blocks)
+      ⊕ part-spelled 7 6 (blocks all) (omega arith) (c .blocks)
       ⊕ part-spelled 13 8 (t .records) (omega arith) (c .records)
       ⊕ part-spelled-mod 21 10 (t .destinations) (omega arith) (c .destinations)
       ⊕ part-spelled 31 12 (t .debits) (omega arith) (c .debits)

@@ -12,10 +12,11 @@ use Rattle.paper.specs.declared.rules.Rules.{Rules}
 use Rattle.paper.specs.Answers.{accepted}
 use Rattle.paper.specs.Fields.{is, number}
 use Rattle.paper.specs.Kinds.{kindOf}
-use Rattle.paper.specs.Reading.{State, start, standing, next, recordsOf, reading}
+use Rattle.paper.specs.Reading.{State, start, beforeNext, next, at, recordsOf, reading}
 use Rattle.paper.specs.Writing.{numbered}
-use Rattle.paper.specs.Extract.{Item, Batch, Groups, before, grouped, batchesOf, isTo, itemsTo, holding, batchesTo, itemRecords, batchRecords}
-use Rattle.paper.proofs.Accepted.{Reads, Follows, file-begins, batch-opens, file-ends, first-individual, its-additional, next-individual, batch-closes, judged-facts, first-header, after-last, accepted-facts}
+use Rattle.paper.specs.Extract.{Item, Batch, Groups, prepended, grouped, batchesOf, isTo, itemsTo, holding, batchesTo, itemRecords, batchRecords}
+use Rattle.paper.specs.Demands.{Reads}
+use Rattle.paper.proofs.Accepted.{Follows, file-begins, batch-opens, file-ends, first-individual, its-additional, next-individual, batch-closes, judged-facts, first-header, after-last, accepted-facts}
 
 -- the header of the batch, if it is still to be written
 pub data Waiting : Type 0 where
@@ -86,18 +87,18 @@ unfolding waits itemRecords holding batchRecords
 one-item nothingWaits n r xs is bs = ap (λ (l : List (List ℕ)). r ∷ l) (sym (append-assoc xs (itemRecords is) (batchRecords n bs)))
 one-item (headerWaits h) n r xs is bs = ap (λ (l : List (List ℕ)). numbered (suc n) h ∷ r ∷ l) (sym (append-assoc xs (itemRecords is) (batchRecords (suc n) bs)))
 
-step : (e : ℕ) (k : Kind) (r : List ℕ) (p : Picking) (g : Groups) → pickedOut e k p r ++ rest e (picking e k p r) g ≡ rest e p (before k r g)
-unfolding pickedOut picking before rest waits itemsTo batchesTo
+step : (e : ℕ) (k : Kind) (r : List ℕ) (p : Picking) (g : Groups) → pickedOut e k p r ++ rest e (picking e k p r) g ≡ rest e p (prepended k r g)
+unfolding pickedOut picking prepended rest waits itemsTo batchesTo
 step e FileHeader r p g = refl
 step e BatchHeader r p g = sym (rw (cond-nil (p .mine)) (no-items (p .waiting) (p .number) (holding r (itemsTo e (g .items)) (batchesTo e (g .batches)))))
 step e Individual r p g = go (isTo e r) refl
   where
-    go : (b : Bool) → isTo e r ≡ b → pickedOut e Individual p r ++ rest e (picking e Individual p r) g ≡ rest e p (before Individual r g)
+    go : (b : Bool) → isTo e r ≡ b → pickedOut e Individual p r ++ rest e (picking e Individual p r) g ≡ rest e p (prepended Individual r g)
     go true q = rw (q, rest, cond-nil (p .mine)) (one-item (p .waiting) (p .number) r (g .additionals) (itemsTo e (g .items)) (batchesTo e (g .batches)))
     go false q = rw (q, rest, cond-nil (p .mine)) refl
 step e Additional r p g = go (p .mine) refl
   where
-    go : (b : Bool) → p .mine ≡ b → pickedOut e Additional p r ++ rest e p g ≡ rest e p (before Additional r g)
+    go : (b : Bool) → p .mine ≡ b → pickedOut e Additional p r ++ rest e p g ≡ rest e p (prepended Additional r g)
     go true q = rw (q, rest, pickedOut)
     go false q = rw (q, rest, pickedOut)
 step e BatchControl r p g = refl
@@ -117,28 +118,28 @@ picked-rest e (r ∷ rs) p = ap (λ (l : List (List ℕ)). pickedOut e (kindOf r
 -- ---- in an accepted file no individual record stands before the first batch
 
 none-before : (rules : Rules) (s : State) (rs : List (List ℕ)) → s .before ≡ Between → Reads rules s rs → grouped rs .items ≡ []
-unfolding grouped before next standing
+unfolding grouped prepended next beforeNext
 none-before rules s [] e h = refl
 none-before rules s (r ∷ rs) e h = go Between (kindOf r) (rw e at (judged-facts rules s r (h .0) .order)) refl refl
   where
-    go : (b : Before) (k : Kind) → Follows b k → b ≡ Between → kindOf r ≡ k → before (kindOf r) r (grouped rs) .items ≡ []
+    go : (b : Before) (k : Kind) → Follows b k → b ≡ Between → kindOf r ≡ k → prepended (kindOf r) r (grouped rs) .items ≡ []
     go b k file-begins x q = cc
     go b k batch-opens x q = rw q refl
     go b k first-individual x q = cc
     go b k next-individual x q = cc
     go b k its-additional x q = cc
     go b k batch-closes x q = cc
-    go b k file-ends x q = rw (q, after-last rules (next s r) rs (ap (λ (y : Kind). standing y r) q) (h .1)) refl
+    go b k file-ends x q = rw (q, after-last rules (next s r) rs (ap (λ (y : Kind). beforeNext y r) q) (h .1)) refl
 
 no-items-first : (rules : Rules) (file : List ℕ) → reading rules file ≡ accepted → grouped (recordsOf file) .items ≡ []
-unfolding grouped before next standing
+unfolding grouped prepended next beforeNext
 no-items-first rules file h =
     let a = accepted-facts rules file h in
     let hd : List ℕ = take 94 file in
     let e = a .first .1 in
     let rd : Reads rules start (hd ∷ a .first .0) = rw e at (a .reads) in
     let k : kindOf hd ≡ FileHeader = first-header rules hd (a .first .0) rd in
-    rw (e, k) (none-before rules (next start hd) (a .first .0) (ap (λ (x : Kind). standing x hd) k) (rd .1))
+    rw (e, k) (none-before rules (next start hd) (a .first .0) (ap (λ (x : Kind). beforeNext x hd) k) (rd .1))
 
 -- what one pass picks is what the extract holds
 pub picked-batches : (rules : Rules) (e : ℕ) (file : List ℕ) → reading rules file ≡ accepted → picked e notYet (recordsOf file) ≡ batchRecords 0 (batchesTo e (batchesOf file))

@@ -18,9 +18,10 @@ use Rattle.paper.specs.Checks.{fine}
 use Rattle.paper.specs.Fields.{field, every, good, is}
 use Rattle.paper.specs.Entities.{entity}
 use Rattle.paper.specs.Kinds.{kindOf}
-use Rattle.paper.specs.Reading.{counted, State, start, flag, standing, next, fields, parts, recordsOf, reading}
+use Rattle.paper.specs.Reading.{counted, State, start, flag, beforeNext, next, fields, at, parts, recordsOf, reading}
 use Rattle.paper.specs.Postings.{Posting, posting, postedBy, senderAfter, postingsFrom, postings}
-use Rattle.paper.proofs.Accepted.{Reads, individual-read, Follows, file-begins, batch-opens, file-ends, first-individual, its-additional, next-individual, batch-closes, judged-facts, accepted-facts}
+use Rattle.paper.specs.Demands.{Reads}
+use Rattle.paper.proofs.Accepted.{individual-read, Follows, file-begins, batch-opens, file-ends, first-individual, its-additional, next-individual, batch-closes, judged-facts, accepted-facts}
 use Rattle.paper.proofs.Facts.{Facts, AllFacts, own-sender, file-facts}
 
 -- ---- by place
@@ -72,7 +73,7 @@ Sent Inside b n = n ≡ entity (field b 80 87)
 Sent Ended b n = Unit {0}
 
 own-postings : (rules : Rules) (rs : List (List ℕ)) (s : State) (n : ℕ) → Sent (s .before) (s .counts .header) n → Reads rules s rs → postingsFrom n rs ≡ ownPostings rs
-unfolding postingsFrom ownPostings next standing counted fields flag postedBy senderAfter
+unfolding postingsFrom ownPostings next beforeNext counted fields flag postedBy senderAfter
 own-postings rules [] s n i h = refl
 own-postings rules (r ∷ rs) s n i h =
     let j = judged-facts rules s r (h .0) in
@@ -85,10 +86,10 @@ own-postings rules (r ∷ rs) s n i h =
 
     six : n ≡ entity (field (s .counts .header) 80 87) → fields Individual rules s r ≡ fine → postedBy Individual n r ≡ postedBy Individual (entity (field r 80 87)) r
     six i f =
-        let o = individual-read rules (s .counts .header) (s .counts .number) r f in
-        ap (λ (m : ℕ). postedBy Individual m r) (i ∙ ap entity (sym (own-sender (s .counts .header) (s .counts .number) r (o .counter))))
+        let o = individual-read rules (s .counts .header) (s .counts .counter) r f in
+        ap (λ (m : ℕ). postedBy Individual m r) (i ∙ ap entity (sym (own-sender (s .counts .header) (s .counts .counter) r (o .counter))))
 
-    go : (b : Before) (k : Kind) → Follows b k → Sent b (s .counts .header) n → fields k rules s r ≡ fine → (postedBy k n r ≡ postedBy k (entity (field r 80 87)) r) × Sent (standing k r) (counted k (s .counts) r .header) (senderAfter k n r)
+    go : (b : Before) (k : Kind) → Follows b k → Sent b (s .counts .header) n → fields k rules s r ≡ fine → (postedBy k n r ≡ postedBy k (entity (field r 80 87)) r) × Sent (beforeNext k r) (counted k (s .counts) r .header) (senderAfter k n r)
     go b k file-begins i f = (refl, tt)
     go b k batch-opens i f = (refl, refl)
     go b k file-ends i f = (refl, tt)

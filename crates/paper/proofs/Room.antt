@@ -4,11 +4,11 @@ use native.Mathlib.Omega.{arith}
 use mathlib.Core.Bool.{Bool, true, false, cond}
 use mathlib.Core.List.{[], List, _∷_, _++_}
 use mathlib.Core.Path.{_≡_, refl, _∙_}
+use lib.Dec.{eqb}
 use lib.IntN.{natAbs}
 use lib.ListN.{length, getD, length-append, set, replicate}
 use Rattle.paper.specs.Answers.{Said, accepted, refused}
-use Rattle.paper.specs.Reading.{reading}
-use Rattle.paper.specs.Postings.{postings, count}
+use Rattle.paper.specs.Postings.{Posting, postings, count}
 use Rattle.paper.specs.Sessions.{Session, zeroCell, newSession, keyOf, answerTo, sessionAfter, presenting}
 use Rattle.paper.specs.Demands.{withAccepted, Came, opened, presented, postingsOf}
 use Rattle.paper.proofs.Places.{postings-sound, postings-count}
@@ -50,7 +50,7 @@ marks-files (presented {s} {files} c file) = go (answerTo s file) refl (marks-fi
     go : (a : Said) → answerTo s file ≡ a → marks (s .used) ≡ length files → marks (sessionAfter a s file .used) ≡ length (withAccepted a files file)
     go (refused n place) e h = h
     go accepted e h =
-        let p = presented-new (reading (s .rules) file) (getD (s .used) (keyOf file) false) e in
+        let p = presented-new s file e in
         let l : keyOf file < length (s .used) = omega (arith, key-lt file (identifier-lt (s .rules) file (p .0)), used-length c) in
         marks-more (s .used) (keyOf file) l (p .1) ∙ omega (arith, length-snoc files file)
 
@@ -71,7 +71,7 @@ bounded-came (presented {s} {files} c file) = go (answerTo s file) refl (bounded
     go : (a : Said) → answerTo s file ≡ a → Bounded files → Bounded (withAccepted a files file)
     go (refused n place) e b = b
     go accepted e b =
-        let p = presented-new (reading (s .rules) file) _ e .0 in
+        let p = presented-new s file e .0 in
         let q : postingsOf (files ++ file ∷ []) ≡ postingsOf files ++ postings file = postingsOf-snoc files file in
         record {
           below = rw q (below-append (postingsOf files) (postings file) (b .below) (sound-below (s .rules) (postings file) (postings-sound (s .rules) file p)));
@@ -83,3 +83,22 @@ pub position-fits : {s : Session} {files : List (List ℕ)} → Came s files →
 position-fits {s} {files} c e l =
     let b = bounded-came c in
     rw (figures c e l .position) (omega (arith, position-bound e (postingsOf files) (b .below), b .count, files-bound c))
+
+count-bound : (test : Posting → Bool) (ps : List Posting) → count test ps ≤ length ps
+unfolding count
+count-bound test [] = omega arith
+count-bound test (p ∷ ps) = go (test p) (count-bound test ps)
+  where
+    go : (b : Bool) → count test ps ≤ length ps → cond b 1 0 + count test ps ≤ suc (length ps)
+    go true h = omega arith
+    go false h = omega arith
+
+-- and no count does
+pub counts-fit : {s : Session} {files : List (List ℕ)} → Came s files → (e : ℕ) → e < 500
+    → ((getD (s .cells) e zeroCell) .sent < 2 ^ 64) × ((getD (s .cells) e zeroCell) .received < 2 ^ 64)
+counts-fit {s} {files} c e l =
+    let b = bounded-came c in
+    let a = figures c e l in (
+      rw (a .sent) (omega (arith, count-bound (λ p. eqb e (p .sender)) (postingsOf files), b .count, files-bound c)),
+      rw (a .received) (omega (arith, count-bound (λ p. eqb e (p .destination)) (postingsOf files), b .count, files-bound c)),
+    )

@@ -3,7 +3,6 @@ use Prim.Native.Nat.{ℕ, zero, suc, _+_, _*_, _≤_, _/_, _%_}
 use Prim.Native.String.{String}
 use native.Mathlib.Nat.{div-add-mod'}
 use native.Mathlib.Omega.{arith}
-use mathlib.Core.Bool.{Bool, true, false}
 use mathlib.Core.List.{[], List, _∷_, _++_, append-assoc, map}
 use mathlib.Core.Path.{_≡_, refl, sym, ap, _∙_, ap₂}
 use lib.Dec.{T}
@@ -12,16 +11,17 @@ use lib.Seq.{take-all, take-at}
 use Rattle.paper.specs.declared.record.Kind.{Kind}
 use Rattle.paper.specs.declared.record.Kind.the-variants.{FileHeader, BatchHeader, Individual, Additional, BatchControl, FileControl, Other}
 use Rattle.paper.specs.declared.rules.Rules.{Rules}
-use Rattle.paper.specs.Answers.{accepted, refused}
+use Rattle.paper.specs.Answers.{accepted, require}
 use Rattle.paper.specs.Fields.{bytes, field, is}
 use Rattle.paper.specs.Kinds.{kind, kindOf}
-use Rattle.paper.specs.Reading.{Counts, nothingCounted, counted, parts, reading}
+use Rattle.paper.specs.Reading.{Counts, nothingCounted, counted, at, parts, reading}
 use Rattle.paper.specs.Writing.{joined, numbered, batchControlOf, fileControlOf, owed, owedBefore, ending, withControls, closing}
-use Rattle.paper.specs.Trays.{trayRecords, markGood, trayRecordGood, unlessGood, trayFault, batchesAfter, individualsAfter, numberedBy, numbering, build, zeroed, marked, stripped, strip}
-use Rattle.paper.proofs.Tests.{and-l, and-r, T-of, same→eq}
+use Rattle.paper.specs.Trays.{trayRecords, markGood, trayRecordGood, trayFault, batchesAfter, individualsAfter, numberedBy, numbering, build, zeroed, marked, stripped, strip}
+use Rattle.paper.proofs.Tests.{and-l, and-r, same→eq}
+use Rattle.paper.proofs.Refusals.{both-accept, required}
 use Rattle.paper.proofs.Lists.{Sized, joined-parts, sized-parts, length-numbered, kind-numbered, front-numbered}
 use Rattle.paper.proofs.Accepted.{first-header, accepted-facts}
-use Rattle.paper.proofs.Closing.{wrote, closing-records}
+use Rattle.paper.proofs.Closing.{afterWriting, closing-records}
 
 -- ---- controls leave nothing behind
 
@@ -49,8 +49,8 @@ pub stripped-controls : (rs : List (List ℕ)) (c : Counts) → stripped (withCo
 unfolding withControls ending stripped fileControlOf kindOf kind marked
 stripped-controls [] c = stripped-append (owed (c .batches) c) _ ∙ ap (λ (l : List (List ℕ)). l ++ []) (stripped-owed (c .batches) c)
 stripped-controls (r ∷ rs) c =
-    stripped-append (owedBefore (kindOf r) c) (r ∷ withControls (wrote (kindOf r) c r) rs)
-    ∙ ap₂ (λ (x : List (List ℕ)) (y : List (List ℕ)). x ++ (marked (kindOf r) r ++ y)) (stripped-before (kindOf r) c) (stripped-controls rs (wrote (kindOf r) c r))
+    stripped-append (owedBefore (kindOf r) c) (r ∷ withControls (afterWriting (kindOf r) c r) rs)
+    ∙ ap₂ (λ (x : List (List ℕ)) (y : List (List ℕ)). x ++ (marked (kindOf r) r ++ y)) (stripped-before (kindOf r) c) (stripped-controls rs (afterWriting (kindOf r) c r))
 
 -- ---- a tray record comes back from under a number
 
@@ -90,13 +90,11 @@ AllGood [] = Unit {0}
 AllGood (t ∷ ts) = T (trayRecordGood t) × AllGood ts
 
 pub all-good : (ts : List (List ℕ)) (place : ℕ) → trayFault place ts ≡ accepted → AllGood ts
-unfolding trayFault unlessGood
+unfolding trayFault
 all-good [] place h = tt
-all-good (t ∷ ts) place h = go (trayRecordGood t) refl (all-good ts (place + 1))
-  where
-    go : (b : Bool) → trayRecordGood t ≡ b → (trayFault (place + 1) ts ≡ accepted → AllGood ts) → AllGood (t ∷ ts)
-    go true e r = (T-of e, r (rw e at h))
-    go false e r = let q : refused 207 place ≡ accepted = rw e at h in let z : _≡_ {A = ℕ} 0 1 = cc in absurd (omega arith)
+all-good (t ∷ ts) place h =
+    let p = both-accept (require (trayRecordGood t) 207 place) (trayFault (place + 1) ts) h in
+    (required (trayRecordGood t) 207 place (p .0), all-good ts (place + 1) (p .1))
 
 stripped-numbering : (ts : List (List ℕ)) (b n : ℕ) → Sized 96 ts → AllGood ts → stripped (numbering b n (map (drop 2) ts)) ≡ ts
 unfolding numbering stripped trayRecordGood

@@ -1,5 +1,6 @@
 -- Numbers on the counter: an answer is acceptance or a refusal number with a place. Record places count from 0.
 use Prim.Native.Nat.{ℕ}
+use mathlib.Core.Bool.{Bool, true, false}
 use Rattle.paper.specs.declared.answer.Fault.{Fault}
 use Rattle.paper.specs.declared.answer.Fault.the-variants.{Length, Format, Amount, Additional, Counter, Date, Reserved, Account, Reference, Information, Currency, Roster, Room, Tray, Entity, Identifier}
 use Rattle.paper.specs.declared.answer.Answer.{Answer}
@@ -33,3 +34,13 @@ numberOf Identifier = 209
 abbrev pub said : Answer → Said
 said Accepted = accepted
 said (Refused fault place) = refused (numberOf fault) place
+
+-- the first refusal is the answer: one stands, and acceptance asks on
+unfoldable pub andThen : Said → Said → Said
+andThen accepted next = next
+andThen (refused n place) next = refused n place
+
+-- the test holds, else this number at this place
+unfoldable pub require : Bool → ℕ → ℕ → Said
+require true n place = accepted
+require false n place = refused n place

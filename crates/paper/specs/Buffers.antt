@@ -1,11 +1,12 @@
 -- Extracting, building and stripping into a lent buffer: the order of refusals, and the buffer's final bytes.
+-- `extract`, `build` and `strip` are the bytes; `extracting`, `building` and `stripping` are the jobs.
 use Prim.Native.Nat.{ℕ, _%_}
-use mathlib.Core.Bool.{Bool, true, false, _&&_}
+use mathlib.Core.Bool.{false, _&&_}
 use mathlib.Core.List.{List, _++_}
 use lib.Dec.{leb, eqb}
 use lib.ListN.{length, drop, getD}
 use Rattle.paper.specs.declared.rules.Rules.{Rules}
-use Rattle.paper.specs.Answers.{Said, accepted, refused}
+use Rattle.paper.specs.Answers.{Said, accepted, refused, andThen, require}
 use Rattle.paper.specs.Fields.{within}
 use Rattle.paper.specs.Reading.{reading, lengthGood}
 use Rattle.paper.specs.Writing.{blanks}
@@ -18,16 +19,6 @@ pub record Outcome : Type 0 where
   pub written : ℕ
   pub buffer : List ℕ
 
--- a refusal stands; acceptance asks on
-unfoldable pub andThen : Said → Said → Said
-andThen (refused n place) next = refused n place
-andThen accepted next = next
-
--- a refusal tied to no record, at 0
-unfoldable pub require : Bool → ℕ → Said
-require true n = accepted
-require false n = refused n 0
-
 -- the first bytes are new, the rest of the buffer stays
 unfoldable pub over : List ℕ → List ℕ → List ℕ
 over new buffer = new ++ drop (length new) buffer
@@ -39,11 +30,11 @@ written (refused n place) new buffer = record { answer = refused n place; writte
 
 -- output buffer shorter than the output
 unfoldable pub roomFor : List ℕ → List ℕ → Said
-roomFor new buffer = require (leb (length new) (length buffer)) 206
+roomFor new buffer = require (leb (length new) (length buffer)) 206 0
 
 -- 208: entity number not 1 to 499, or not on the roster
 unfoldable pub entityGiven : Rules → ℕ → Said
-entityGiven rules e = require (within 1 499 e && getD (rules .roster) e false) 208
+entityGiven rules e = require (within 1 499 e && getD (rules .roster) e false) 208 0
 
 -- extracting for E: 208, then the reading's refusals, then 206
 unfoldable pub extracting : Rules → ℕ → List ℕ → List ℕ → Outcome
@@ -57,7 +48,7 @@ stripping rules file buffer = let new = strip file in written (andThen (reading 
 
 -- 207: header body not 94 bytes or tray no multiple of 96, at 0; then the first bad tray record, at its place
 unfoldable pub trayAnswer : List ℕ → List ℕ → Said
-trayAnswer header tray = andThen (require (eqb (length header) 94 && eqb (length tray % 96) 0) 207) (trayFault 0 (trayRecords tray))
+trayAnswer header tray = andThen (require (eqb (length header) 94 && eqb (length tray % 96) 0) 207 0) (trayFault 0 (trayRecords tray))
 
 -- when the reading refuses, the bytes that the built file would have taken are all spaces
 unfoldable pub builtAs : Said → List ℕ → List ℕ → Outcome
@@ -68,8 +59,12 @@ unfoldable pub builtIf : Said → Rules → List ℕ → List ℕ → Outcome
 builtIf (refused n place) rules file buffer = written (refused n place) file buffer
 builtIf accepted rules file buffer = builtAs (reading rules file) file buffer
 
+-- the tests before the reading: 207, 201, 206
+unfoldable pub buildable : List ℕ → List ℕ → List ℕ → Said
+buildable header tray buffer =
+    let file = build header tray in
+    andThen (trayAnswer header tray) (andThen (require (lengthGood (length file)) 201 0) (roomFor file buffer))
+
 -- building: 207, 201, 206, then the reading's answer on the result
 unfoldable pub building : Rules → List ℕ → List ℕ → List ℕ → Outcome
-building rules header tray buffer =
-    let file = build header tray in
-    builtIf (andThen (trayAnswer header tray) (andThen (require (lengthGood (length file)) 201) (roomFor file buffer))) rules file buffer
+building rules header tray buffer = builtIf (buildable header tray buffer) rules (build header tray) buffer

@@ -2,7 +2,7 @@
 use Prim.Native.Nat.{ℕ, zero, suc, _+_}
 use mathlib.Core.Path.{_≡_}
 use mathlib.Core.Bool.{true, false, cond}
-use mathlib.Core.List.{List, [], _∷_}
+use mathlib.Core.List.{List, [], _∷_, map}
 use lib.ListN.{getD, replicate}
 use Rattle.paper.specs.declared.rules.Rules.{Rules}
 use Rattle.paper.specs.declared.rules.Currency.{Currency}
@@ -22,8 +22,9 @@ pub data Claim : Type 0 where
   characters : ℕ → Claim
   reads : Rules → List ℕ → Said → Claim
   opens : ℕ → Currency → List ℕ → Said → Claim
+  answers : Session → List ℕ → Said → Claim
   presents : Session → List ℕ → Said → Session → Claim
-  holds : Session → ℕ → Cell → Claim
+  holds : Session → List ℕ → List Cell → Claim
   extracts : Rules → ℕ → List ℕ → List ℕ → Outcome → Claim
   builds : Rules → List ℕ → List ℕ → List ℕ → Outcome → Claim
   strips : Rules → List ℕ → List ℕ → Outcome → Claim
@@ -32,8 +33,9 @@ abbrev pub Holds : Claim → Type 0
 Holds (characters n) = goodBelow 256 ≡ n
 Holds (reads rules file answer) = reading rules file ≡ answer
 Holds (opens date currency entities answer) = opening date currency entities .answer ≡ answer
+Holds (answers s file answer) = presenting s file .answer ≡ answer
 Holds (presents s file answer after) = presenting s file ≡ record { answer = answer; session = after }
-Holds (holds s e cell) = getD (s .cells) e zeroCell ≡ cell
+Holds (holds s entities cells) = map (λ e. getD (s .cells) e zeroCell) entities ≡ cells
 Holds (extracts rules e file buffer outcome) = extracting rules e file buffer ≡ outcome
 Holds (builds rules header tray buffer outcome) = building rules header tray buffer ≡ outcome
 Holds (strips rules file buffer outcome) = stripping rules file buffer ≡ outcome
@@ -48,7 +50,7 @@ pub data All : List Row → Type 0 where
   done : All []
   _and_ : {n : ℕ} {claim : Claim} {rows : List Row} → Holds claim → All rows → All (case n claim ∷ rows)
 
--- entities 1 to 499
+-- the rules of a date and a currency, with all entities on the roster
 abbrev pub dated : ℕ → Currency → Rules
 dated date currency = record { date = date; currency = currency; roster = false ∷ replicate 499 true }
 

@@ -48,15 +48,15 @@ batchControl header t r =
     also need (spells (field r 21 32) (t .debits)) 17
     also need (spells (field r 33 44) (t .credits)) 17
 
--- all records by tens, rounded up
-unfoldable pub tens : ℕ → ℕ
-tens n = (n + 9) / 10
+-- all records by blocks, rounded up
+unfoldable pub blocks : ℕ → ℕ
+blocks n = (n + 9) / 10
 
--- 9, file control, as record number `all` of the file
+-- 9, file control of a file of `all` records, this one included
 unfoldable pub fileControl : ℕ → ℕ → Tally → List ℕ → Check
 fileControl all batches t r =
     need (spells (field r 2 7) batches) 17
-    also need (spells (field r 8 13) (tens all)) 17
+    also need (spells (field r 8 13) (blocks all)) 17
     also need (spells (field r 14 21) (t .records)) 17
     also need (spells (field r 22 31) (t .destinations % 10 ^ 10)) 17
     also need (spells (field r 32 43) (t .debits)) 17

@@ -1,23 +1,41 @@
--- The words of the three demands: sessions and the files they accepted, records that name an entity, numbers aside, numbered as building numbers.
+-- The words in which the three demands are stated.
 use Prim.Native.Nat.{ℕ, zero, suc}
 use mathlib.Core.Path.{_≡_}
 use mathlib.Core.Bool.{Bool, false, cond, _||_}
 use mathlib.Core.List.{List, [], _∷_, _++_}
+use mathlib.Core.Logic.{_⊎_}
 use lib.Dec.{eqb}
 use lib.IntN.{ℤ, pos, _+ℤ_}
+use Rattle.paper.specs.declared.rules.Rules.{Rules}
 use Rattle.paper.specs.declared.rules.Currency.{Currency}
+use Rattle.paper.specs.declared.ledger.Cell.{Cell}
+use Rattle.paper.specs.declared.record.Before.the-variants.{Ended}
 use Rattle.paper.specs.declared.record.Kind.{Kind}
 use Rattle.paper.specs.declared.record.Kind.the-variants.{FileHeader, BatchHeader, Individual, Additional, BatchControl, FileControl, Other}
 use Rattle.paper.specs.Answers.{Said, accepted, refused}
+use Rattle.paper.specs.Checks.{fine, wrong}
 use Rattle.paper.specs.Fields.{field}
 use Rattle.paper.specs.Entities.{entity}
 use Rattle.paper.specs.Kinds.{kindOf}
-use Rattle.paper.specs.Reading.{recordsOf}
-use Rattle.paper.specs.Postings.{Posting, postings}
+use Rattle.paper.specs.Reading.{State, judged, next, recordsOf}
+use Rattle.paper.specs.Postings.{Posting, postings, position, sent, received}
 use Rattle.paper.specs.Sessions.{Session, opening, presenting, originOf, identifierOf}
 use Rattle.paper.specs.Writing.{spelled, blanks}
 use Rattle.paper.specs.Extract.{Batch}
 use Rattle.paper.specs.Trays.{batchesAfter, individualsAfter}
+
+-- ---- exactly when
+
+-- the records from a state on are each without fault, and end with a 9
+abbrev pub Reads : Rules → State → List (List ℕ) → Type 0
+Reads rules s [] = s .before ≡ Ended
+Reads rules s (r ∷ rs) = (judged rules s r ≡ fine) × Reads rules (next s r) rs
+
+-- the first fault among them has this number and place
+abbrev pub FirstFault : Rules → State → List (List ℕ) → ℕ → ℕ → Type 0
+FirstFault rules s [] n place = (s .before ≡ Ended → ⊥) × (n ≡ 17) × (place ≡ s .counts .place)
+FirstFault rules s (r ∷ rs) n place =
+    ((judged rules s r ≡ wrong n) × (place ≡ s .counts .place)) ⊎ ((judged rules s r ≡ fine) × FirstFault rules (next s r) rs n place)
 
 -- ---- after any calls
 
@@ -35,6 +53,12 @@ pub data Came : Session → List (List ℕ) → Type 0 where
 unfoldable pub postingsOf : List (List ℕ) → List Posting
 postingsOf [] = []
 postingsOf (f ∷ fs) = postings f ++ postingsOf fs
+
+-- a cell holds what postings say of entity e
+pub record Agrees (c : Cell) (e : ℕ) (ps : List Posting) : Type 0 where
+  pub position : c .position ≡ position e ps
+  pub sent : c .sent ≡ sent e ps
+  pub received : c .received ≡ received e ps
 
 -- f 0 + f 1 + .. + f (n - 1)
 unfoldable pub sumTo : ℕ → (ℕ → ℤ) → ℤ
@@ -60,6 +84,12 @@ names Other e r = false
 unfoldable pub naming : ℕ → List (List ℕ) → List (List ℕ)
 naming e [] = []
 naming e (r ∷ rs) = cond (names (kindOf r) e r) (r ∷ naming e rs) (naming e rs)
+
+-- two cells hold the same
+pub record Equal (c d : Cell) : Type 0 where
+  pub position : c .position ≡ d .position
+  pub sent : c .sent ≡ d .sent
+  pub received : c .received ≡ d .received
 
 -- the identifiers accepted from an origin, in order
 unfoldable pub identifiersFrom : ℕ → List (List ℕ) → List ℕ

@@ -16,9 +16,10 @@ unfoldable pub ofCurrency : Currency → List ℕ → Bool
 ofCurrency Pesos f = within 1 499 (entityValue f)
 ofCurrency Dollars f = within 501 999 (entityValue f)
 
-abbrev pub added : Currency → ℕ
-added Pesos = 0
-added Dollars = 500
+-- what the currency adds to an entity's number
+abbrev pub currencyAdds : Currency → ℕ
+currencyAdds Pesos = 0
+currencyAdds Dollars = 500
 
 -- other values are no entity
 unfoldable pub entityField : List ℕ → Bool

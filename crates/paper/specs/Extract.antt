@@ -8,7 +8,7 @@ use Rattle.paper.specs.declared.rules.Currency.{Currency}
 use Rattle.paper.specs.declared.record.Kind.{Kind}
 use Rattle.paper.specs.declared.record.Kind.the-variants.{FileHeader, BatchHeader, Individual, Additional, BatchControl, FileControl, Other}
 use Rattle.paper.specs.Fields.{bytes, field}
-use Rattle.paper.specs.Entities.{entity, added}
+use Rattle.paper.specs.Entities.{entity, currencyAdds}
 use Rattle.paper.specs.Kinds.{kindOf}
 use Rattle.paper.specs.Reading.{recordsOf}
 use Rattle.paper.specs.Writing.{spelled, numbered, closing}
@@ -28,18 +28,19 @@ pub record Groups : Type 0 where
   pub items : List Item
   pub batches : List Batch
 
-unfoldable pub before : Kind → List ℕ → Groups → Groups
-before FileHeader r g = g
-before BatchHeader r g = record { additionals = []; items = []; batches = record { header = r; items = g .items } ∷ g .batches }
-before Individual r g = record { additionals = []; items = record { individual = r; additionals = g .additionals } ∷ g .items; batches = g .batches }
-before Additional r g = record { additionals = r ∷ g .additionals; items = g .items; batches = g .batches }
-before BatchControl r g = g
-before FileControl r g = g
-before Other r g = g
+-- a record put before them
+unfoldable pub prepended : Kind → List ℕ → Groups → Groups
+prepended FileHeader r g = g
+prepended BatchHeader r g = record { additionals = []; items = []; batches = record { header = r; items = g .items } ∷ g .batches }
+prepended Individual r g = record { additionals = []; items = record { individual = r; additionals = g .additionals } ∷ g .items; batches = g .batches }
+prepended Additional r g = record { additionals = r ∷ g .additionals; items = g .items; batches = g .batches }
+prepended BatchControl r g = g
+prepended FileControl r g = g
+prepended Other r g = g
 
 unfoldable pub grouped : List (List ℕ) → Groups
 grouped [] = record { additionals = []; items = []; batches = [] }
-grouped (r ∷ rs) = before (kindOf r) r (grouped rs)
+grouped (r ∷ rs) = prepended (kindOf r) r (grouped rs)
 
 unfoldable pub batchesOf : List ℕ → List Batch
 batchesOf file = (grouped (recordsOf file)) .batches
@@ -74,7 +75,7 @@ batchRecords n (b ∷ bs) = numbered (suc n) (b .header) ∷ (itemRecords (b .it
 -- the file header: 4-13 is E, 14-23 the old 4-13, and 41-63 and 64-86 are exchanged
 unfoldable pub headerFor : Currency → ℕ → List ℕ → List ℕ
 headerFor currency e r =
-    field r 1 3 ++ bytes " " ++ spelled 4 (e + added currency) ++ bytes "0000" ++ bytes "0" ++ field r 4 13
+    field r 1 3 ++ bytes " " ++ spelled 4 (e + currencyAdds currency) ++ bytes "0000" ++ bytes "0" ++ field r 4 13
     ++ field r 24 40 ++ field r 64 86 ++ field r 41 63 ++ field r 87 94
 
 unfoldable pub extract : Currency → ℕ → List ℕ → List ℕ

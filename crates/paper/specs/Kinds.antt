@@ -59,6 +59,14 @@ collects Reversal = false
 collects ReversalRejection = false
 collects Unknown = false
 
+-- codes 37 and 36: "01" may stand in 77-78
+abbrev pub takes01 : Code → Bool
+takes01 Order = true
+takes01 Rejection = true
+takes01 Reversal = false
+takes01 ReversalRejection = false
+takes01 Unknown = false
+
 -- codes 32 and 31: the sender pays
 abbrev pub pays : Code → Bool
 pays Order = false

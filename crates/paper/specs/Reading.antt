@@ -9,37 +9,40 @@ use Rattle.paper.specs.declared.record.Kind.{Kind}
 use Rattle.paper.specs.declared.record.Kind.the-variants.{FileHeader, BatchHeader, Individual, Additional, BatchControl, FileControl, Other}
 use Rattle.paper.specs.declared.record.Before.{Before}
 use Rattle.paper.specs.declared.record.Before.the-variants.{Nothing, Between, Opened, Flagged, Inside, Ended}
-use Rattle.paper.specs.Answers.{Said, accepted, refused}
+use Rattle.paper.specs.Answers.{Said, accepted, refused, andThen, require}
 use Rattle.paper.specs.Checks.{Check, fine, wrong, need, _also_}
 use Rattle.paper.specs.Fields.{field, within, every, good, is, number}
 use Rattle.paper.specs.Kinds.{kindOf, allowed}
 use Rattle.paper.specs.Records.{fileHeader, batchHeader, individual, additional}
 use Rattle.paper.specs.Controls.{Tally, zeros, plus, withIndividual, withAdditional, batchControl, fileControl}
 
--- what has been counted: records, so this one's place; the header of the last batch; 88-94 of the last individual, or 0; batches;
--- what its control counts of the batch, and the file control of the batches closed
+-- what has been counted
 pub record Counts : Type 0 where
+  -- records, so that this is the next one's place
   pub place : ℕ
+  -- the header of the last batch
   pub header : List ℕ
-  pub number : ℕ
+  -- the number in 88-94 of the last individual record, 0 before the first
+  pub counter : ℕ
   pub batches : ℕ
+  -- what the batch's control counts, and what the file control counts of the batches closed
   pub batch : Tally
   pub closed : Tally
 
 unfoldable pub nothingCounted : Counts
-nothingCounted = record { place = 0; header = []; number = 0; batches = 0; batch = zeros; closed = zeros }
+nothingCounted = record { place = 0; header = []; counter = 0; batches = 0; batch = zeros; closed = zeros }
 
 -- one record further
 abbrev pub onward : Counts → Counts
-onward c = record { place = c .place + 1; header = c .header; number = c .number; batches = c .batches; batch = c .batch; closed = c .closed }
+onward c = record { place = c .place + 1; header = c .header; counter = c .counter; batches = c .batches; batch = c .batch; closed = c .closed }
 
 unfoldable pub counted : Kind → Counts → List ℕ → Counts
 counted FileHeader c r = onward c
-counted BatchHeader c r = record { place = c .place + 1; header = r; number = c .number; batches = suc (c .batches); batch = zeros; closed = c .closed }
+counted BatchHeader c r = record { place = c .place + 1; header = r; counter = c .counter; batches = suc (c .batches); batch = zeros; closed = c .closed }
 counted Individual c r = record {
   place = c .place + 1;
   header = c .header;
-  number = number (field r 88 94);
+  counter = number (field r 88 94);
   batches = c .batches;
   batch = withIndividual (c .batch) r;
   closed = c .closed;
@@ -47,7 +50,7 @@ counted Individual c r = record {
 counted Additional c r = record {
   place = c .place + 1;
   header = c .header;
-  number = c .number;
+  counter = c .counter;
   batches = c .batches;
   batch = withAdditional (c .batch);
   closed = c .closed;
@@ -55,7 +58,7 @@ counted Additional c r = record {
 counted BatchControl c r = record {
   place = c .place + 1;
   header = c .header;
-  number = c .number;
+  counter = c .counter;
   batches = c .batches;
   batch = c .batch;
   closed = plus (c .closed) (c .batch);
@@ -72,19 +75,19 @@ pub record State : Type 0 where
 unfoldable pub start : State
 start = record { before = Nothing; individual = []; counts = nothingCounted }
 
--- a 6 by whether its position 79 is 1
+-- after a 6, by whether its position 79 is 1
 unfoldable pub flag : Bool → Before
 flag true = Flagged
 flag false = Inside
 
-unfoldable pub standing : Kind → List ℕ → Before
-standing FileHeader r = Between
-standing BatchHeader r = Opened
-standing Individual r = flag (is (field r 79 79) "1")
-standing Additional r = Inside
-standing BatchControl r = Between
-standing FileControl r = Ended
-standing Other r = Ended
+unfoldable pub beforeNext : Kind → List ℕ → Before
+beforeNext FileHeader r = Between
+beforeNext BatchHeader r = Opened
+beforeNext Individual r = flag (is (field r 79 79) "1")
+beforeNext Additional r = Inside
+beforeNext BatchControl r = Between
+beforeNext FileControl r = Ended
+beforeNext Other r = Nothing
 
 unfoldable pub lastIndividual : Kind → List ℕ → List ℕ → List ℕ
 lastIndividual FileHeader i r = i
@@ -97,7 +100,7 @@ lastIndividual Other i r = i
 
 unfoldable pub next : State → List ℕ → State
 next s r = record {
-  before = standing (kindOf r) r;
+  before = beforeNext (kindOf r) r;
   individual = lastIndividual (kindOf r) (s .individual) r;
   counts = counted (kindOf r) (s .counts) r;
 }
@@ -106,7 +109,7 @@ next s r = record {
 unfoldable pub fields : Kind → Rules → State → List ℕ → Check
 fields FileHeader rules s r = fileHeader rules r
 fields BatchHeader rules s r = batchHeader rules r
-fields Individual rules s r = individual rules (s .counts .header) (s .counts .number) r
+fields Individual rules s r = individual rules (s .counts .header) (s .counts .counter) r
 fields Additional rules s r = additional (s .individual) r
 fields BatchControl rules s r = batchControl (s .counts .header) (s .counts .batch) r
 fields FileControl rules s r = fileControl (s .counts .place + 1) (s .counts .batches) (s .counts .closed) r
@@ -127,15 +130,15 @@ finish Flagged place = refused 17 place
 finish Inside place = refused 17 place
 finish Ended place = accepted
 
--- the first fault is the answer, at its record's place
-unfoldable pub unlessWrong : Check → ℕ → Said → Said
-unlessWrong fine place rest = rest
-unlessWrong (wrong n) place rest = refused n place
+-- a fault at its record's place
+unfoldable pub at : ℕ → Check → Said
+at place fine = accepted
+at place (wrong n) = refused n place
 
 -- the records from a state on
 unfoldable pub readingFrom : Rules → State → List (List ℕ) → Said
 readingFrom rules s [] = finish (s .before) (s .counts .place)
-readingFrom rules s (r ∷ rs) = let rest = readingFrom rules (next s r) rs in unlessWrong (judged rules s r) (s .counts .place) rest
+readingFrom rules s (r ∷ rs) = let rest = readingFrom rules (next s r) rs in andThen (at (s .counts .place) (judged rules s r)) rest
 
 -- the first n parts of a width
 unfoldable pub parts : ℕ → ℕ → List ℕ → List (List ℕ)
@@ -148,9 +151,5 @@ recordsOf file = parts 94 (length file / 94) file
 unfoldable pub lengthGood : ℕ → Bool
 lengthGood n = within 188 940000 n && eqb (n % 94) 0
 
-unfoldable pub readingIf : Bool → Rules → List ℕ → Said
-readingIf true rules file = readingFrom rules start (recordsOf file)
-readingIf false rules file = refused 201 0
-
 unfoldable pub reading : Rules → List ℕ → Said
-reading rules file = readingIf (lengthGood (length file)) rules file
+reading rules file = let records = readingFrom rules start (recordsOf file) in andThen (require (lengthGood (length file)) 201 0) records

@@ -8,7 +8,7 @@ use Rattle.paper.specs.Checks.{Check, need, _also_}
 use Rattle.paper.specs.Fields.{field, every, digit, capital, digits, blank, same, is, number, spells}
 use Rattle.paper.specs.Dates.{dateField, timeField}
 use Rattle.paper.specs.Entities.{entityField, ofCurrency, onRoster}
-use Rattle.paper.specs.Kinds.{codeOf, known, isOrder, collects, rejects}
+use Rattle.paper.specs.Kinds.{codeOf, known, isOrder, takes01, rejects}
 
 -- 1, file header
 unfoldable pub fileHeader : Rules → List ℕ → Check
@@ -41,13 +41,13 @@ batchHeader rules r =
 unfoldable pub amountOf : List ℕ → ℕ
 amountOf r = number (field r 30 39)
 
--- account
+-- the account
 unfoldable pub accountGood : List ℕ → Bool
 accountGood r = digits (field r 13 29)
 
 -- 77-78 is "00", or "01" with 37 or 36 only
 unfoldable pub informationGood : List ℕ → Bool
-informationGood r = is (field r 77 78) "00" || is (field r 77 78) "01" && collects (codeOf r)
+informationGood r = is (field r 77 78) "00" || is (field r 77 78) "01" && takes01 (codeOf r)
 
 -- position 79 is 0 only for 37 with "00"
 unfoldable pub flagGood : List ℕ → Bool
@@ -55,11 +55,11 @@ flagGood r = is (field r 79 79) "1" || isOrder (codeOf r) && is (field r 77 78) 
 
 -- 80-87 equals the sender's field, that of the batch's header, and 88-94 exceeds that of the individual record before it
 unfoldable pub counterGood : List ℕ → ℕ → List ℕ → Bool
-counterGood header before r = same (field r 80 87) (field header 80 87) && ltb before (number (field r 88 94))
+counterGood header previous r = same (field r 80 87) (field header 80 87) && ltb previous (number (field r 88 94))
 
--- 6, individual, in the batch under a header; `before` is 88-94 of the individual before it in the file, 0 for the first
+-- 6, individual, in the batch under a header; `previous` is the number in 88-94 of the individual record before it in the file, 0 for the first
 unfoldable pub individual : Rules → List ℕ → ℕ → List ℕ → Check
-individual rules header before r =
+individual rules header previous r =
     need (known (codeOf r)) 17
     also need (entityField (field r 4 11)) 17
     also need (ofCurrency (rules .currency) (field r 4 11)) 203
@@ -73,7 +73,7 @@ individual rules header before r =
     also need (is (field r 79 79) "0" || is (field r 79 79) "1") 17
     also need (flagGood r) 25
     also need (digits (field r 80 94)) 17
-    also need (counterGood header before r) 27
+    also need (counterGood header previous r) 27
 
 -- 7, additional, after an individual record: 99 after 36 or 31, 05 after the others
 unfoldable pub additional99 : List ℕ → List ℕ → Check

@@ -1,6 +1,6 @@
 -- A session, opening and presenting.
 use Prim.Native.Nat.{ℕ, zero, suc, _+_, _-_, _*_}
-use mathlib.Core.Bool.{Bool, true, false}
+use mathlib.Core.Bool.{Bool, true, false, not}
 use mathlib.Core.List.{List, [], _∷_}
 use lib.Dec.{leb}
 use lib.ListN.{getD, set, replicate}
@@ -9,17 +9,19 @@ use Rattle.paper.specs.declared.rules.Rules.{Rules}
 use Rattle.paper.specs.declared.rules.Currency.{Currency}
 use Rattle.paper.specs.declared.rules.Currency.the-variants.{Pesos}
 use Rattle.paper.specs.declared.ledger.Cell.{Cell}
-use Rattle.paper.specs.Answers.{Said, accepted, refused}
+use Rattle.paper.specs.Answers.{Said, accepted, refused, andThen, require}
 use Rattle.paper.specs.Fields.{field, within, among, every}
 use Rattle.paper.specs.Dates.{isDate}
 use Rattle.paper.specs.Entities.{entity}
 use Rattle.paper.specs.Reading.{reading}
 use Rattle.paper.specs.Postings.{Posting, postings, position, sent, received}
 
--- its date, currency and roster; a cell for each entity number; for each origin and identifier whether it was accepted, at 36 times the one and the other
 pub record Session : Type 0 where
+  -- its date, currency and roster
   pub rules : Rules
+  -- a cell for each entity number
   pub cells : List Cell
+  -- whether an identifier was accepted from an origin, at index 36 * origin + identifier
   pub used : List Bool
 
 -- the session that a job hands back, with its answer
@@ -75,13 +77,8 @@ unfoldable pub keyOf : List ℕ → ℕ
 keyOf file = originOf file * 36 + identifierOf file
 
 -- the reading's refusals, then 209
-unfoldable pub unlessUsed : Said → Bool → Said
-unlessUsed (refused n place) used = refused n place
-unlessUsed accepted true = refused 209 0
-unlessUsed accepted false = accepted
-
 unfoldable pub answerTo : Session → List ℕ → Said
-answerTo s file = unlessUsed (reading (s .rules) file) (getD (s .used) (keyOf file) false)
+answerTo s file = andThen (reading (s .rules) file) (require (not (getD (s .used) (keyOf file) false)) 209 0)
 
 -- an entity's cell after postings
 unfoldable pub cellAfter : ℕ → List Posting → Cell → Cell

@@ -1,11 +1,11 @@
 -- Tray, building and strip.
 use Prim.Native.Nat.{ℕ, suc, _+_, _/_}
-use mathlib.Core.Bool.{Bool, true, false, _&&_}
+use mathlib.Core.Bool.{Bool, false, _&&_}
 use mathlib.Core.List.{List, [], _∷_, _++_, map}
 use lib.ListN.{length, take, drop}
 use Rattle.paper.specs.declared.record.Kind.{Kind}
 use Rattle.paper.specs.declared.record.Kind.the-variants.{FileHeader, BatchHeader, Individual, Additional, BatchControl, FileControl, Other}
-use Rattle.paper.specs.Answers.{Said, accepted, refused}
+use Rattle.paper.specs.Answers.{Said, accepted, andThen, require}
 use Rattle.paper.specs.Fields.{bytes, field, is}
 use Rattle.paper.specs.Kinds.{kindOf}
 use Rattle.paper.specs.Reading.{parts, recordsOf}
@@ -29,14 +29,10 @@ markGood Other mark = false
 unfoldable pub trayRecordGood : List ℕ → Bool
 trayRecordGood t = markGood (kindOf (drop 2 t)) (take 2 t) && is (field (drop 2 t) 88 94) "0000000"
 
-unfoldable pub unlessGood : Bool → ℕ → Said → Said
-unlessGood true place rest = rest
-unlessGood false place rest = refused 207 place
-
 -- 207 at the first bad tray record
 unfoldable pub trayFault : ℕ → List (List ℕ) → Said
 trayFault place [] = accepted
-trayFault place (t ∷ ts) = let rest = trayFault (place + 1) ts in unlessGood (trayRecordGood t) place rest
+trayFault place (t ∷ ts) = let rest = trayFault (place + 1) ts in andThen (require (trayRecordGood t) 207 place) rest
 
 -- ---- numbering: batches 1, 2, .., individuals 1, 2, .. through the file; an additional gets the number of the last individual, zero if none
 

@@ -6,7 +6,7 @@ use Rattle.paper.specs.declared.record.Kind.{Kind}
 use Rattle.paper.specs.declared.record.Kind.the-variants.{FileHeader, BatchHeader, Individual, Additional, BatchControl, FileControl, Other}
 use Rattle.paper.specs.Fields.{bytes, field}
 use Rattle.paper.specs.Kinds.{kindOf}
-use Rattle.paper.specs.Controls.{Tally, tens}
+use Rattle.paper.specs.Controls.{Tally, blocks}
 use Rattle.paper.specs.Reading.{Counts, nothingCounted, counted}
 
 -- n in so many digits: its last ones, with zeros in front
@@ -31,10 +31,10 @@ batchControlOf header t =
     bytes "8" ++ field header 2 4 ++ spelled 6 (t .records) ++ spelled 10 (t .destinations) ++ spelled 12 (t .debits) ++ spelled 12 (t .credits)
     ++ field header 41 50 ++ blanks 25 ++ field header 80 87 ++ field header 88 94
 
--- 9, file control, as record number `all` of the file
+-- 9, file control of a file of `all` records, this one included
 unfoldable pub fileControlOf : ℕ → ℕ → Tally → List ℕ
 fileControlOf all batches t =
-    bytes "9" ++ spelled 6 batches ++ spelled 6 (tens all) ++ spelled 8 (t .records) ++ spelled 10 (t .destinations) ++ spelled 12 (t .debits)
+    bytes "9" ++ spelled 6 batches ++ spelled 6 (blocks all) ++ spelled 8 (t .records) ++ spelled 10 (t .destinations) ++ spelled 12 (t .debits)
     ++ spelled 12 (t .credits) ++ blanks 39
 
 -- the control of the batch that is open; before the first batch none is

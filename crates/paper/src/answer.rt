@@ -4,21 +4,37 @@ ghost use Rattle.paper.specs.Answers.{numberOf};
 
 // A reason to refuse, in the order of the paper's table.
 pub enum Fault {
+    // 201: length of the file
     Length,
+    // 17: character, order, fixed field, entity or control
     Format,
+    // 19: amount
     Amount,
+    // 25: additional record missing, surplus or wrong
     Additional,
+    // 27: counter out of sequence
     Counter,
+    // 75: date
     Date,
+    // 77: individual record, field 4, the reserved zero
     Reserved,
+    // 78: field 5, the account
     Account,
+    // 79: field 7, the reference of the debit
     Reference,
+    // 87: field 9, the information on the transaction
     Information,
+    // 203: entity of the other currency
     Currency,
+    // 204: entity not on the roster
     Roster,
+    // 206: output buffer too short
     Room,
+    // 207: tray or header body malformed
     Tray,
+    // 208: entity number asked for
     Entity,
+    // 209: identifier already accepted from this origin
     Identifier,
 }
 
