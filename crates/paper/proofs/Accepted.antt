@@ -1,5 +1,4 @@
 -- What an accepted file guarantees: its length, its records one by one, the order of their types.
-use Prim.Native.Char.{code}
 use Prim.Native.Nat.{ℕ, zero, suc, _*_, _≤_, _<_, _/_, _%_, _^_}
 use native.Mathlib.Nat.{div-add-mod'}
 use native.Mathlib.Omega.{arith}
@@ -16,15 +15,13 @@ use Rattle.paper.specs.declared.record.Kind.the-variants.{FileHeader, Ba
 use Rattle.paper.specs.declared.rules.Rules.{Rules}
 use Rattle.paper.specs.Answers.{accepted, refused, andThen, require}
 use Rattle.paper.specs.Checks.{Check, fine, wrong, need, _also_}
-use Rattle.paper.specs.Fields.{field, within, every, good, digits, same, is, number, spells}
+use Rattle.paper.specs.Fields.{field, within, every, good, digits, same, is, spells}
 use Rattle.paper.specs.Dates.{dateField}
 use Rattle.paper.specs.Entities.{ofCurrency, entityField, onRoster}
 use Rattle.paper.specs.Kinds.{kindOf, codeOf, known, allowed}
 use Rattle.paper.specs.Records.{batchHeader, amountOf, counterGood, individual}
 use Rattle.paper.specs.Controls.{Tally, batchControl, blocks, fileControl}
-use Rattle.paper.specs.Reading.{State, start, flag, next, fields, judged, finish, at, readingFrom, parts, recordsOf, lengthGood, reading}
-use Rattle.paper.specs.Postings.{count}
-use Rattle.paper.specs.Sessions.{listed}
+use Rattle.paper.specs.Reading.{State, start, next, fields, judged, finish, at, readingFrom, parts, recordsOf, lengthGood, reading}
 use Rattle.paper.specs.Writing.{joined}
 use Rattle.paper.specs.Demands.{Reads, FirstFault}
 use Rattle.paper.proofs.Tests.{and-l, and-r, of-T, within-range}
@@ -80,7 +77,8 @@ reads-run rules [] s h = rw h refl
 reads-run rules (r ∷ rs) s h = rw (h .0) (reads-run rules rs (next s r) (h .1))
 
 -- the reading accepts exactly the files of good length whose records are each without fault and end with a 9
-pub accepted-exactly : (rules : Rules) (file : List ℕ) → (reading rules file ≡ accepted) ↔ (T (lengthGood (length file)) × Reads rules start (recordsOf file))
+pub accepted-exactly : (rules : Rules) (file : List ℕ)
+    → (reading rules file ≡ accepted) ↔ (T (lengthGood (length file)) × Reads rules start (recordsOf file))
 unfolding reading andThen require
 accepted-exactly rules file = (there (lengthGood (length file)), λ h. rw (of-T (lengthGood (length file)) (h .0)) (reads-run rules (recordsOf file) start (h .1)))
   where
@@ -132,7 +130,8 @@ pub record IndividualRead (rules : Rules) (header : List ℕ) (before : ℕ) (r 
   pub tail : T (digits (field r 80 94))
   pub counter : T (counterGood header before r)
 
-pub individual-read : (rules : Rules) (header : List ℕ) (before : ℕ) (r : List ℕ) → individual rules header before r ≡ fine → IndividualRead rules header before r
+pub individual-read : (rules : Rules) (header : List ℕ) (before : ℕ) (r : List ℕ) → individual rules header before r ≡ fine
+    → IndividualRead rules header before r
 unfolding individual
 individual-read rules header before r h = search (also-l, also-r, need-T) depth 20
 

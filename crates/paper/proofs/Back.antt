@@ -17,7 +17,7 @@ use Rattle.paper.specs.Checks.{fine}
 use Rattle.paper.specs.Fields.{bytes, field, is}
 use Rattle.paper.specs.Kinds.{kindOf}
 use Rattle.paper.specs.Controls.{Tally, plus, withIndividual, withAdditional}
-use Rattle.paper.specs.Reading.{Counts, nothingCounted, counted, State, start, flag, beforeNext, next, fields, at, parts, recordsOf, reading}
+use Rattle.paper.specs.Reading.{Counts, nothingCounted, counted, State, start, flag, beforeNext, next, fields, parts, recordsOf, reading}
 use Rattle.paper.specs.Writing.{blanks, joined, numbered, batchControlOf, fileControlOf, owed, settled, owedBefore, settledBefore, ending, withControls, closing}
 use Rattle.paper.specs.Trays.{trayRecords, batchesAfter, individualsAfter, numberedBy, numbering, build, zeroed, marked, stripped, strip}
 use Rattle.paper.specs.Demands.{Reads, AsBuilt}
@@ -93,7 +93,8 @@ module _ (rules : Rules) (r : List ℕ) (rs : List (List ℕ)) (l : length r ≡
   numbered-kind : (m : ℕ) → kindOf (numbered m r) ≡ kindOf r
   numbered-kind m = kind-numbered m r (omega arith)
 
-  step5 : kindOf r ≡ BatchHeader → Beside (s .counts) c → Reads rules (next s r) rs → withControls c (numbering (c .batches) n (bodies (r ∷ rs))) ≡ owed (c .batches) c ++ normals (c .batches) n (r ∷ rs)
+  step5 : kindOf r ≡ BatchHeader → Beside (s .counts) c → Reads rules (next s r) rs
+      → withControls c (numbering (c .batches) n (bodies (r ∷ rs))) ≡ owed (c .batches) c ++ normals (c .batches) n (r ∷ rs)
   unfolding withControls numbering numberedBy batchesAfter individualsAfter stripped marked normals normal owedBefore settledBefore next counted beforeNext
   step5 k i h =
       let m : ℕ = suc (c .batches) in
@@ -112,7 +113,8 @@ module _ (rules : Rules) (r : List ℕ) (rs : List (List ℕ)) (l : length r ≡
       (ap (λ (x : List (List ℕ)). owed (c .batches) c ++ numbered m r ∷ x)
       (subst (λ (x : ℕ). withControls d (numbering x n (bodies rs)) ≡ normals x n rs) q (ih (next s r) d n Opened (ap (λ (x : Kind). beforeNext x r) k) link h)))
 
-  step6 : kindOf r ≡ Individual → Together (s .counts) c → Reads rules (next s r) rs → withControls c (numbering (c .batches) n (bodies (r ∷ rs))) ≡ normals (c .batches) n (r ∷ rs)
+  step6 : kindOf r ≡ Individual → Together (s .counts) c → Reads rules (next s r) rs
+      → withControls c (numbering (c .batches) n (bodies (r ∷ rs))) ≡ normals (c .batches) n (r ∷ rs)
   unfolding withControls numbering numberedBy batchesAfter individualsAfter stripped marked normals normal owedBefore settledBefore next counted beforeNext
   step6 k i h =
       let d : Counts = counted Individual c (numbered (suc n) r) in
@@ -130,7 +132,8 @@ module _ (rules : Rules) (r : List ℕ) (rs : List (List ℕ)) (l : length r ≡
       (ap (λ (y : List (List ℕ)). numbered (suc n) r ∷ y)
       (ih (next s r) d (suc n) (flag x) (ap (λ (y : Kind). beforeNext y r) k) (link-flag x (next s r .counts) d link) h ∙ ap (λ (o : List (List ℕ)). o ++ normals (c .batches) (suc n) rs) (owes-flag x d)))
 
-  step7 : kindOf r ≡ Additional → Together (s .counts) c → Reads rules (next s r) rs → withControls c (numbering (c .batches) n (bodies (r ∷ rs))) ≡ normals (c .batches) n (r ∷ rs)
+  step7 : kindOf r ≡ Additional → Together (s .counts) c → Reads rules (next s r) rs
+      → withControls c (numbering (c .batches) n (bodies (r ∷ rs))) ≡ normals (c .batches) n (r ∷ rs)
   unfolding withControls numbering numberedBy batchesAfter individualsAfter stripped marked normals normal owedBefore settledBefore next counted beforeNext
   step7 k i h =
       let d : Counts = counted Additional c (numbered n r) in
@@ -146,7 +149,8 @@ module _ (rules : Rules) (r : List ℕ) (rs : List (List ℕ)) (l : length r ≡
       rw (k, kind-zeroed r l, k, numbered-zeroed n r l, numbered-kind n, k)
       (ap (λ (y : List (List ℕ)). numbered n r ∷ y) (ih (next s r) d n Inside (ap (λ (y : Kind). beforeNext y r) k) link h))
 
-  step8 : kindOf r ≡ BatchControl → Together (s .counts) c → fields BatchControl rules s r ≡ fine → Reads rules (next s r) rs → withControls c (numbering (c .batches) n (bodies (r ∷ rs))) ≡ normals (c .batches) n (r ∷ rs)
+  step8 : kindOf r ≡ BatchControl → Together (s .counts) c → fields BatchControl rules s r ≡ fine → Reads rules (next s r) rs
+      → withControls c (numbering (c .batches) n (bodies (r ∷ rs))) ≡ normals (c .batches) n (r ∷ rs)
   unfolding stripped marked normals batchesAfter individualsAfter next counted beforeNext fields owed settled
   step8 k i f h =
       let m : ℕ = i .some .0 in
@@ -161,7 +165,8 @@ module _ (rules : Rules) (r : List ℕ) (rs : List (List ℕ)) (l : length r ≡
       ∙ ap (λ (x : List ℕ). x ∷ []) (ap₂ batchControlOf (i .header) (sym (i .batch)) ∙ control-normal r l (c .batches) n (s .counts .header) (s .counts .batch) (i .long) k (control-read (s .counts .header) (s .counts .batch) r f)) in
       rw k (ih (next s r) c n Between (ap (λ (y : Kind). beforeNext y r) k) link h ∙ ap (λ (o : List (List ℕ)). o ++ normals (c .batches) n rs) own)
 
-  step9 : kindOf r ≡ FileControl → Beside (s .counts) c → fields FileControl rules s r ≡ fine → rs ≡ [] → withControls c (numbering (c .batches) n (bodies (r ∷ rs))) ≡ owed (c .batches) c ++ normals (c .batches) n (r ∷ rs)
+  step9 : kindOf r ≡ FileControl → Beside (s .counts) c → fields FileControl rules s r ≡ fine → rs ≡ []
+      → withControls c (numbering (c .batches) n (bodies (r ∷ rs))) ≡ owed (c .batches) c ++ normals (c .batches) n (r ∷ rs)
   unfolding withControls numbering stripped marked normals ending fields
   step9 k i f e =
       rw (k, e) (ap (λ (x : List ℕ). owed (c .batches) c ++ x ∷ [])
@@ -269,14 +274,16 @@ module _ (rules : Rules) (head : List ℕ) (rs : List (List ℕ)) (z : Sized 94 
           ∙ records-joined 94 (head ∷ rs) (omega arith) z))
 
   -- the same of the file whose records they are
-  pub back-file : (file : List ℕ) → joined (head ∷ rs) ≡ file → recordsOf file ≡ head ∷ rs → (build head (strip file) ≡ file) ↔ AsBuilt 0 0 (recordsOf file)
+  pub back-file : (file : List ℕ) → joined (head ∷ rs) ≡ file → recordsOf file ≡ head ∷ rs
+      → (build head (strip file) ≡ file) ↔ AsBuilt 0 0 (recordsOf file)
   unfolding batchesAfter individualsAfter
   back-file file w e =
       let i : (build head (strip file) ≡ file) ↔ AsBuilt 0 0 rs = subst (λ (f : List ℕ). (build head (strip f) ≡ f) ↔ AsBuilt 0 0 rs) w back-records in
       rw (e, k) ((λ q. (tt, i .0 q)), λ t. i .1 (t .1))
 
 -- building from a stripped file and its own header gives the file exactly when it is numbered this way and its free control positions are blank
-pub build-strips-back : (rules : Rules) (file : List ℕ) → reading rules file ≡ accepted → (build (take 94 file) (strip file) ≡ file) ↔ AsBuilt 0 0 (recordsOf file)
+pub build-strips-back : (rules : Rules) (file : List ℕ) → reading rules file ≡ accepted
+    → (build (take 94 file) (strip file) ≡ file) ↔ AsBuilt 0 0 (recordsOf file)
 build-strips-back rules file h =
     let a = accepted-facts rules file h in
     let e = a .first .1 in

@@ -44,7 +44,8 @@ owed-before-sized Other c h = tt
 abbrev pub afterWriting : Kind → Counts → List ℕ → Counts
 afterWriting k c r = counted k (settledBefore k c) r
 
-ready-after : (k : Kind) (c : Counts) (r : List ℕ) → length r ≡ 94 → Ready (c .batches) (c .header) → Ready (afterWriting k c r .batches) (afterWriting k c r .header)
+ready-after : (k : Kind) (c : Counts) (r : List ℕ) → length r ≡ 94 → Ready (c .batches) (c .header)
+    → Ready (afterWriting k c r .batches) (afterWriting k c r .header)
 unfolding counted settledBefore
 ready-after FileHeader c r l h = h
 ready-after BatchHeader c r l h = l
@@ -110,7 +111,8 @@ length-controls (r ∷ rs) c =
     ∙ omega (arith, owed-step (kindOf r) c r, length-controls rs (afterWriting (kindOf r) c r))
 
 -- the length of what closing gives
-pub length-closing : (header : List ℕ) (rs : List (List ℕ)) → length header ≡ 94 → Sized 94 rs → length (closing header rs) ≡ (length rs + headersOf rs + 2) * 94
+pub length-closing : (header : List ℕ) (rs : List (List ℕ)) → length header ≡ 94 → Sized 94 rs
+    → length (closing header rs) ≡ (length rs + headersOf rs + 2) * 94
 unfolding closing counted nothingCounted
 length-closing header rs h z =
     length-joined 94 _ (h, controls-sized rs (counted FileHeader nothingCounted header) z tt)

@@ -1,5 +1,4 @@
 -- What each record of an accepted file is, with no state: its characters, its entities, its amount, what it stands after.
-use Prim.Native.Char.{code}
 use Prim.Native.Nat.{ℕ, _≤_, _<_, _%_, _^_}
 use native.Mathlib.Omega.{arith}
 use mathlib.Core.Bool.{Bool, true, false, _||_}
@@ -18,8 +17,7 @@ use Rattle.paper.specs.Fields.{field, within, every, good, digits, same,
 use Rattle.paper.specs.Entities.{entityValue, ofCurrency, entityField, entity, onRoster}
 use Rattle.paper.specs.Kinds.{kindOf, codeOf, known}
 use Rattle.paper.specs.Records.{fileHeader, amountOf, counterGood}
-use Rattle.paper.specs.Reading.{counted, State, start, flag, beforeNext, next, fields, at, recordsOf, reading}
-use Rattle.paper.specs.Sessions.{listed}
+use Rattle.paper.specs.Reading.{counted, State, start, flag, beforeNext, next, fields, recordsOf, reading}
 use Rattle.paper.specs.Demands.{Reads}
 use Rattle.paper.proofs.Tests.{and-l, and-r, or-go, of-T, within-range, same→eq}
 use Rattle.paper.proofs.Lists.{Sized}
@@ -79,7 +77,8 @@ pub own-sender : (header : List ℕ) (n : ℕ) (r : List ℕ) → T (counterGood
 unfolding counterGood
 own-sender header n r t = same→eq (field r 80 87) (field header 80 87) (and-l (same (field r 80 87) (field header 80 87)) _ t)
 
-individual-of : (rules : Rules) (header r : List ℕ) (n : ℕ) → length r ≡ 94 → BatchRead rules header → IndividualRead rules header n r → IndividualFacts rules r
+individual-of : (rules : Rules) (header r : List ℕ) (n : ℕ) → length r ≡ 94 → BatchRead rules header → IndividualRead rules header n r
+    → IndividualFacts rules r
 unfolding amountOf
 individual-of rules header r n l b o =
     let d : T (digits (field r 30 39)) = and-l (digits (field r 30 39)) _ (o .amount) in
@@ -94,7 +93,8 @@ individual-of rules header r n l b o =
       flag = o .flag;
     }
 
-all-facts : (rules : Rules) (rs : List (List ℕ)) (s : State) → Sized 94 rs → In rules (s .before) (s .counts .header) → Reads rules s rs → AllFacts rules rs
+all-facts : (rules : Rules) (rs : List (List ℕ)) (s : State) → Sized 94 rs → In rules (s .before) (s .counts .header) → Reads rules s rs
+    → AllFacts rules rs
 unfolding next beforeNext counted fields flag
 all-facts rules [] s z i h = tt
 all-facts rules (r ∷ rs) s z i h =
@@ -106,7 +106,8 @@ all-facts rules (r ∷ rs) s z i h =
     inside true x = x
     inside false x = x
 
-    go : (b : Before) (k : Kind) → Follows b k → In rules b (s .counts .header) → fields k rules s r ≡ fine → Facts rules k r × In rules (beforeNext k r) (counted k (s .counts) r .header)
+    go : (b : Before) (k : Kind) → Follows b k → In rules b (s .counts .header) → fields k rules s r ≡ fine
+        → Facts rules k r × In rules (beforeNext k r) (counted k (s .counts) r .header)
     go b k file-begins i f = (f, tt)
     go b k batch-opens i f = (batch-read rules r f, batch-read rules r f)
     go b k file-ends i f = (tt, tt)
@@ -135,7 +136,8 @@ unfolding start
 file-shaped rules file h = shaped rules (recordsOf file) start (accepted-facts rules file h .reads)
 
 -- so after a 6 with 1 in position 79 comes a 7
-pub seven-follows : (b : Before) (r q : List ℕ) (rs : List (List ℕ)) → Shaped b (r ∷ q ∷ rs) → kindOf r ≡ Individual → T (is (field r 79 79) "1") → kindOf q ≡ Additional
+pub seven-follows : (b : Before) (r q : List ℕ) (rs : List (List ℕ)) → Shaped b (r ∷ q ∷ rs) → kindOf r ≡ Individual → T (is (field r 79 79) "1")
+    → kindOf q ≡ Additional
 unfolding beforeNext flag
 seven-follows b r q rs h e t = go (beforeNext (kindOf r) r) (kindOf q) (h .1 .0) (ap (λ (k : Kind). beforeNext k r) e ∙ ap flag (of-T (is (field r 79 79) "1") t))
   where

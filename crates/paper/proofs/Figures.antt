@@ -2,7 +2,6 @@
 use Prim.Native.Nat.{ℕ, zero, suc, _+_, _<_}
 use native.Mathlib.Nat.{mod-lt, zero-add, add-zero}
 use native.Mathlib.Omega.{arith}
-use mathlib.Core.Bool.{Bool, true, false}
 use mathlib.Core.List.{[], List, _∷_, _++_, append-nil, append-assoc}
 use mathlib.Core.Path.{_≡_, refl, sym, ap, _∙_, subst}
 use lib.Dec.{eqb}
@@ -14,13 +13,12 @@ use Rattle.paper.specs.declared.record.Kind.the-variants.{FileHeader, Ba
 use Rattle.paper.specs.declared.rules.Currency.{Currency}
 use Rattle.paper.specs.declared.rules.Currency.the-variants.{Pesos}
 use Rattle.paper.specs.Answers.{Said, accepted, refused}
-use Rattle.paper.specs.Fields.{field, within, every}
-use Rattle.paper.specs.Dates.{isDate}
+use Rattle.paper.specs.Fields.{field}
 use Rattle.paper.specs.Entities.{entityValue, entity}
 use Rattle.paper.specs.Kinds.{kindOf}
 use Rattle.paper.specs.Reading.{recordsOf}
 use Rattle.paper.specs.Postings.{Posting, posting, postedBy, senderAfter, postingsFrom, postings, position, count, sent, received}
-use Rattle.paper.specs.Sessions.{Session, zeroCell, newSession, refusedOpening, openingIf, opening, answerTo, cellAfter, cellsAfter, sessionAfter, presenting}
+use Rattle.paper.specs.Sessions.{Session, zeroCell, newSession, openingAnswer, openedWith, opening, answerTo, cellAfter, cellsAfter, sessionAfter, presenting}
 use Rattle.paper.specs.Demands.{withAccepted, Came, opened, presented, postingsOf, Agrees, sumTo}
 use Rattle.paper.proofs.Sums.{sumTo-same, AllWithin, within-append, positions-cancel, counts-add, position-append, count-append}
 
@@ -103,15 +101,15 @@ record Kept (s : Session) (files : List (List ℕ)) : Type 0 where
 -- a session as opening returns it, whatever it answers
 pub opened-by : (P : Session → Type 0) → ((date : ℕ) (currency : Currency) (entities : List ℕ) → P (newSession date currency entities))
     → (date : ℕ) (currency : Currency) (entities : List ℕ) → P ((opening date currency entities) .session)
-unfolding opening openingIf refusedOpening
-opened-by P new date currency entities = go (isDate date) (every (within 1 499) entities)
+unfolding opening openedWith
+opened-by P new date currency entities = go (openingAnswer date entities)
   where
-    go : (a b : Bool) → P ((openingIf a b date currency entities) .session)
-    go true true = new date currency entities
-    go true false = new 101 Pesos []
-    go false b = new 101 Pesos []
+    go : (a : Said) → P (openedWith a date currency entities)
+    go accepted = new date currency entities
+    go (refused n place) = new 101 Pesos []
 
-kept-presented : (s : Session) (files : List (List ℕ)) (file : List ℕ) → Kept s files → Kept ((presenting s file) .session) (withAccepted ((presenting s file) .answer) files file)
+kept-presented : (s : Session) (files : List (List ℕ)) (file : List ℕ) → Kept s files
+    → Kept ((presenting s file) .session) (withAccepted ((presenting s file) .answer) files file)
 unfolding presenting withAccepted sessionAfter
 kept-presented s files file t = go (answerTo s file)
   where
@@ -151,12 +149,14 @@ positions-zero {s} {files} c =
     ∙ positions-cancel (postingsOf files) (within-files files)
 
 -- sent counts add up to the number of records posted, and received counts alike
-pub sent-sum : {s : Session} {files : List (List ℕ)} → Came s files → sumTo 500 (λ e. pos ((getD (s .cells) e zeroCell) .sent)) ≡ pos (length (postingsOf files))
+pub sent-sum : {s : Session} {files : List (List ℕ)} → Came s files
+    → sumTo 500 (λ e. pos ((getD (s .cells) e zeroCell) .sent)) ≡ pos (length (postingsOf files))
 sent-sum {s} {files} c =
     sumTo-same 500 (λ e. pos ((getD (s .cells) e zeroCell) .sent)) (λ e. pos (sent e (postingsOf files))) (λ e l. ap pos (figures c e l .sent))
     ∙ counts-add (λ p. p .sender) (λ p w. w .sender) (postingsOf files) (within-files files)
 
-pub received-sum : {s : Session} {files : List (List ℕ)} → Came s files → sumTo 500 (λ e. pos ((getD (s .cells) e zeroCell) .received)) ≡ pos (length (postingsOf files))
+pub received-sum : {s : Session} {files : List (List ℕ)} → Came s files
+    → sumTo 500 (λ e. pos ((getD (s .cells) e zeroCell) .received)) ≡ pos (length (postingsOf files))
 received-sum {s} {files} c =
     sumTo-same 500 (λ e. pos ((getD (s .cells) e zeroCell) .received)) (λ e. pos (received e (postingsOf files))) (λ e l. ap pos (figures c e l .received))
     ∙ counts-add (λ p. p .destination) (λ p w. w .destination) (postingsOf files) (within-files files)

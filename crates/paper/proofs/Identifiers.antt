@@ -13,9 +13,9 @@ use Rattle.paper.specs.declared.record.Kind.{Kind}
 use Rattle.paper.specs.declared.rules.Rules.{Rules}
 use Rattle.paper.specs.Answers.{Said, accepted, refused, andThen, require}
 use Rattle.paper.specs.Checks.{fine}
-use Rattle.paper.specs.Fields.{field, among, every, digit, capital, same}
+use Rattle.paper.specs.Fields.{field, among, every, digit, capital}
 use Rattle.paper.specs.Records.{fileHeader}
-use Rattle.paper.specs.Reading.{start, fields, at, reading}
+use Rattle.paper.specs.Reading.{start, fields, reading}
 use Rattle.paper.specs.Sessions.{Session, newSession, originOf, identifierIf, identifierOf, keyOf, answerTo, sessionAfter, presenting}
 use Rattle.paper.specs.Demands.{Reads, withAccepted, Came, opened, presented, identifiersFrom}
 use Rattle.paper.proofs.Tests.{and-l, or-go, T-of, within-range}
@@ -39,10 +39,13 @@ header-read rules file h =
     subst (λ (k : Kind). fields k rules start (take 94 file) ≡ fine) (first-header rules (take 94 file) (a .first .0) rd) (judged-facts rules start (take 94 file) (rd .0) .fields)
 
 -- a digit is 0 to 9, a capital 10 to 35
-identifier-cases : (b : ℕ) → T (digit b || capital b)
-    → ((48 ≤ b) × (b ≤ 57) × (identifierIf (leb b 57) b ≡ b - 48)) ⊎ ((65 ≤ b) × (b ≤ 90) × (identifierIf (leb b 57) b ≡ b - 55))
+abbrev Identifies : ℕ → Type 0
+Identifies b =
+    ((48 ≤ b) × (b ≤ 57) × (identifierIf (leb b 57) b ≡ b - 48)) ⊎ ((65 ≤ b) × (b ≤ 90) × (identifierIf (leb b 57) b ≡ b - 55))
+
+identifies : (b : ℕ) → T (digit b || capital b) → Identifies b
 unfolding digit capital identifierIf
-identifier-cases b t = or-go (digit b) (capital b) t
+identifies b t = or-go (digit b) (capital b) t
     (λ d. let r = within-range 48 57 b d in inl (r .0, r .1, rw (le-leb b 57 (r .1))))
     (λ c. let r = within-range 65 90 b c in inr (r .0, r .1, rw (lt-leb b 57 (omega arith))))
 
@@ -57,16 +60,17 @@ identifier-good rules file h =
 
 pub identifier-lt : (rules : Rules) (file : List ℕ) → reading rules file ≡ accepted → identifierOf file < 36
 unfolding identifierOf
-identifier-lt rules file h = ⊎-elim (λ c. omega arith) (λ c. omega arith) (identifier-cases (getD file 33 0) (identifier-good rules file h))
+identifier-lt rules file h = ⊎-elim (λ c. omega arith) (λ c. omega arith) (identifies (getD file 33 0) (identifier-good rules file h))
+
+one-byte : (b d : ℕ) → Identifies b → Identifies d → identifierIf (leb b 57) b ≡ identifierIf (leb d 57) d → b ≡ d
+one-byte b d x y h = ⊎-elim (λ p. ⊎-elim (λ q. omega arith) (λ q. omega arith) y) (λ p. ⊎-elim (λ q. omega arith) (λ q. omega arith) y) x
 
 -- two files that the reading accepts have the same identifier only where position 34 is the same
-pub identifier-own : (rules others : Rules) (f g : List ℕ) → reading rules f ≡ accepted → reading others g ≡ accepted → identifierOf f ≡ identifierOf g → getD f 33 0 ≡ getD g 33 0
+pub identifier-own : (rules others : Rules) (f g : List ℕ) → reading rules f ≡ accepted → reading others g ≡ accepted
+    → identifierOf f ≡ identifierOf g → getD f 33 0 ≡ getD g 33 0
 unfolding identifierOf
 identifier-own rules others f g p q h =
-    ⊎-elim (λ c. ⊎-elim (λ d. omega arith) (λ d. omega arith) of-g) (λ c. ⊎-elim (λ d. omega arith) (λ d. omega arith) of-g) (identifier-cases (getD f 33 0) (identifier-good rules f p))
-  where
-    of-g : ((48 ≤ getD g 33 0) × (getD g 33 0 ≤ 57) × (identifierIf (leb (getD g 33 0) 57) (getD g 33 0) ≡ getD g 33 0 - 48)) ⊎ ((65 ≤ getD g 33 0) × (getD g 33 0 ≤ 90) × (identifierIf (leb (getD g 33 0) 57) (getD g 33 0) ≡ getD g 33 0 - 55))
-    of-g = identifier-cases (getD g 33 0) (identifier-good others g q)
+    one-byte (getD f 33 0) (getD g 33 0) (identifies (getD f 33 0) (identifier-good rules f p)) (identifies (getD g 33 0) (identifier-good others g q)) h
 
 abbrev AllIdentified : List (List ℕ) → Type 0
 AllIdentified [] = Unit {0}
@@ -119,11 +123,13 @@ marks-came (presented {s} {files} c file) k l = go (answerTo s file) refl (marks
     key : ℕ
     key = keyOf file
 
-    mark : (b : Bool) → eqb k key ≡ b → key < 18000 → getD (s .used) k false ≡ among (map keyOf files) k → getD (set (s .used) key true) k false ≡ (b || among (map keyOf files) k)
+    mark : (b : Bool) → eqb k key ≡ b → key < 18000 → getD (s .used) k false ≡ among (map keyOf files) k
+        → getD (set (s .used) key true) k false ≡ (b || among (map keyOf files) k)
     mark true e m h = let q : k ≡ key = eqb→eq k key (T-of e) in rw q (getD-set-same (s .used) key true false (omega (arith, used-length c)))
     mark false e m h = getD-set-other (s .used) key k true false (eqb-false k key e) ∙ h
 
-    go : (a : Said) → answerTo s file ≡ a → getD (s .used) k false ≡ among (map keyOf files) k → getD (sessionAfter a s file .used) k false ≡ among (map keyOf (withAccepted a files file)) k
+    go : (a : Said) → answerTo s file ≡ a → getD (s .used) k false ≡ among (map keyOf files) k
+        → getD (sessionAfter a s file .used) k false ≡ among (map keyOf (withAccepted a files file)) k
     go (refused n place) e h = h
     go accepted e h =
         let m : key < 18000 = key-lt file (identifier-lt (s .rules) file (presented-new s file e .0)) in
@@ -160,7 +166,8 @@ presenting-exactly {s} {files} c file = go (reading (s .rules) file) refl
     new : ℕ → Bool → Said
     new place used = require (not used) 209 place
 
-    go : (a : Said) → reading (s .rules) file ≡ a → andThen a (new 0 (getD (s .used) (keyOf file) false)) ≡ andThen a (new 0 (among (identifiersFrom (originOf file) files) (identifierOf file)))
+    go : (a : Said) → reading (s .rules) file ≡ a
+        → andThen a (new 0 (getD (s .used) (keyOf file) false)) ≡ andThen a (new 0 (among (identifiersFrom (originOf file) files) (identifierOf file)))
     go (refused n place) e = refl
     go accepted e =
         let l = identifier-lt (s .rules) file e in

@@ -1,7 +1,7 @@
 -- Lent buffers and sessions: a refusal leaves them as 01 states; where building succeeds, stripping returns the tray.
 use Prim.Native.Nat.{ℕ, _≤_, _%_}
 use native.Mathlib.Omega.{arith}
-use mathlib.Core.Bool.{Bool, true, false, _&&_}
+use mathlib.Core.Bool.{_&&_}
 use mathlib.Core.List.{[], List}
 use mathlib.Core.Path.{_≡_, refl, sym, ap, _∙_}
 use lib.Dec.{eqb, leb, leb→le, le→leb, eqb→eq}
@@ -11,10 +11,8 @@ use Rattle.paper.specs.declared.rules.Currency.{Currency}
 use Rattle.paper.specs.declared.rules.Currency.the-variants.{Pesos}
 use Rattle.paper.specs.declared.rules.Rules.{Rules}
 use Rattle.paper.specs.Answers.{Said, accepted, refused, andThen, require}
-use Rattle.paper.specs.Fields.{within, every, good}
-use Rattle.paper.specs.Dates.{isDate}
-use Rattle.paper.specs.Reading.{at, lengthGood, reading}
-use Rattle.paper.specs.Sessions.{Session, newSession, refusedOpening, openingIf, opening, answerTo, sessionAfter, presenting}
+use Rattle.paper.specs.Reading.{lengthGood, reading}
+use Rattle.paper.specs.Sessions.{Session, Reply, newSession, openingAnswer, openedWith, opening, answerTo, sessionAfter, presenting}
 use Rattle.paper.specs.Writing.{blanks}
 use Rattle.paper.specs.Extract.{extract}
 use Rattle.paper.specs.Trays.{trayRecords, trayFault, build, strip}
@@ -25,30 +23,33 @@ use Rattle.paper.proofs.Round.{round-trip}
 
 -- ---- refusals
 
-written-refused : (a : Said) (new buffer : List ℕ) {n place : ℕ} → written a new buffer .answer ≡ refused n place → written a new buffer .buffer ≡ buffer
+written-refused : (a : Said) (new buffer : List ℕ) {n place : ℕ} → written a new buffer .answer ≡ refused n place
+    → written a new buffer .buffer ≡ buffer
 unfolding written
 written-refused (refused m q) new buffer h = refl
 written-refused accepted new buffer h = absurd (refused-not (sym h))
 
 -- extracting and stripping: a refusal leaves the buffer
-pub extracting-refused : (rules : Rules) (e : ℕ) (file buffer : List ℕ) {n place : ℕ} → extracting rules e file buffer .answer ≡ refused n place → extracting rules e file buffer .buffer ≡ buffer
+pub extracting-refused : (rules : Rules) (e : ℕ) (file buffer : List ℕ) {n place : ℕ} → extracting rules e file buffer .answer ≡ refused n place
+    → extracting rules e file buffer .buffer ≡ buffer
 unfolding extracting
 extracting-refused rules e file buffer h = written-refused _ (extract (rules .currency) e file) buffer h
 
-pub stripping-refused : (rules : Rules) (file buffer : List ℕ) {n place : ℕ} → stripping rules file buffer .answer ≡ refused n place → stripping rules file buffer .buffer ≡ buffer
+pub stripping-refused : (rules : Rules) (file buffer : List ℕ) {n place : ℕ} → stripping rules file buffer .answer ≡ refused n place
+    → stripping rules file buffer .buffer ≡ buffer
 unfolding stripping
 stripping-refused rules file buffer h = written-refused _ (strip file) buffer h
 
 -- opening: a refusal returns the session of 000101, pesos, empty roster
 pub opening-refused : (date : ℕ) (currency : Currency) (entities : List ℕ) {n place : ℕ} → opening date currency entities .answer ≡ refused n place
     → opening date currency entities ≡ record { answer = refused n place; session = newSession 101 Pesos [] }
-unfolding opening openingIf refusedOpening
-opening-refused date currency entities {n} {place} h = go (isDate date) (every (within 1 499) entities) h
+unfolding opening openedWith
+opening-refused date currency entities {n} {place} h = go (openingAnswer date entities) h
   where
-    go : (a b : Bool) → openingIf a b date currency entities .answer ≡ refused n place → openingIf a b date currency entities ≡ record { answer = refused n place; session = newSession 101 Pesos [] }
-    go true true h = absurd (refused-not (sym h))
-    go true false h = λ i. record { answer = h i; session = newSession 101 Pesos [] }
-    go false b h = λ i. record { answer = h i; session = newSession 101 Pesos [] }
+    go : (a : Said) → a ≡ refused n place
+        → _≡_ {A = Reply} (record { answer = a; session = openedWith a date currency entities }) (record { answer = refused n place; session = newSession 101 Pesos [] })
+    go accepted e = absurd (refused-not (sym e))
+    go (refused m q) e = λ i. record { answer = e i; session = newSession 101 Pesos [] }
 
 -- presenting: a refusal leaves the session
 pub presenting-refused : (s : Session) (file : List ℕ) {n place : ℕ} → presenting s file .answer ≡ refused n place → presenting s file .session ≡ s
@@ -60,7 +61,8 @@ presenting-refused s file h = go (answerTo s file) h
     go accepted e = absurd (refused-not (sym e))
 
 -- the whole reply then: the refusal, and the session as it was
-pub presenting-unchanged : (s : Session) (file : List ℕ) {n place : ℕ} → presenting s file .answer ≡ refused n place → presenting s file ≡ record { answer = refused n place; session = s }
+pub presenting-unchanged : (s : Session) (file : List ℕ) {n place : ℕ} → presenting s file .answer ≡ refused n place
+    → presenting s file ≡ record { answer = refused n place; session = s }
 presenting-unchanged s file h = λ i. record { answer = h i; session = presenting-refused s file h i }
 
 -- ---- the buffer keeps its length, and its rest stays
@@ -77,7 +79,8 @@ room : (new buffer : List ℕ) → roomFor new buffer ≡ accepted → length ne
 unfolding roomFor
 room new buffer h = leb→le (length new) (length buffer) (required (leb (length new) (length buffer)) 206 0 h)
 
-written-length : (a : Said) (new buffer : List ℕ) → (a ≡ accepted → length new ≤ length buffer) → length (written a new buffer .buffer) ≡ length buffer
+written-length : (a : Said) (new buffer : List ℕ) → (a ≡ accepted → length new ≤ length buffer)
+    → length (written a new buffer .buffer) ≡ length buffer
 unfolding written
 written-length (refused n place) new buffer h = refl
 written-length accepted new buffer h = over-length new buffer (h refl)
@@ -121,7 +124,8 @@ unfolding building builtIf written
 building-stays rules header tray buffer h = rw h refl
 
 -- refused by the reading, the bytes that the built file would have taken are spaces
-pub building-spaces : (rules : Rules) (header tray buffer : List ℕ) {n place : ℕ} → buildable header tray buffer ≡ accepted → reading rules (build header tray) ≡ refused n place
+pub building-spaces : (rules : Rules) (header tray buffer : List ℕ) {n place : ℕ} → buildable header tray buffer ≡ accepted
+    → reading rules (build header tray) ≡ refused n place
     → building rules header tray buffer ≡ record { answer = refused n place; written = 0; buffer = over (blanks (length (build header tray))) buffer }
 unfolding building builtIf builtAs
 building-spaces rules header tray buffer h r = rw (h, r) refl
@@ -140,7 +144,8 @@ built rules header tray buffer h = go (buildable header tray buffer) (reading ru
     file : List ℕ
     file = build header tray
 
-    go : (a b : Said) → buildable header tray buffer ≡ a → reading rules file ≡ b → builtIf a rules file buffer .answer ≡ accepted → Built rules header tray buffer
+    go : (a b : Said) → buildable header tray buffer ≡ a → reading rules file ≡ b → builtIf a rules file buffer .answer ≡ accepted
+        → Built rules header tray buffer
     go (refused n place) b e r q = absurd (refused-not q)
     go accepted (refused n place) e r q = absurd (refused-not (rw r at q))
     go accepted accepted e r q =
@@ -154,7 +159,8 @@ built rules header tray buffer h = go (buildable header tray buffer) (reading ru
         }
 
 -- then stripping the file in that session, with room, returns the tray
-pub strip-built : (rules : Rules) (header tray buffer other : List ℕ) → building rules header tray buffer .answer ≡ accepted → length tray ≤ length other
+pub strip-built : (rules : Rules) (header tray buffer other : List ℕ) → building rules header tray buffer .answer ≡ accepted
+    → length tray ≤ length other
     → stripping rules (build header tray) other ≡ record { answer = accepted; written = length tray; buffer = over tray other }
 unfolding stripping written trayAnswer andThen roomFor
 strip-built rules header tray buffer other h l =

@@ -13,7 +13,6 @@ use Rattle.paper.specs.Fields.{bytes, field, spells}
 use Rattle.paper.specs.Kinds.{kind, kindOf, codeOf}
 use Rattle.paper.specs.Records.{amountOf}
 use Rattle.paper.specs.Controls.{Tally, withIndividual, blocks}
-use Rattle.paper.specs.Postings.{count}
 use Rattle.paper.specs.Writing.{spelled, blanks, numbered, batchControlOf, fileControlOf}
 use Rattle.paper.specs.Trays.{batchesAfter, individualsAfter, zeroed}
 use Rattle.paper.specs.Demands.{Tidy}
@@ -162,7 +161,8 @@ module _ (r : List ℕ) (l : length r ≡ 94) where
   part-spelled-mod : (a w n : ℕ) → a + w ≤ 94 → T (spells (take w (drop a r)) (n % 10 ^ w)) → spelled w n ≡ take w (drop a r)
   part-spelled-mod a w n h t = sym (spelled-mod w n) ∙ part-spelled a w (n % 10 ^ w) h t
 
-  pub control-normal : (b n : ℕ) (h : List ℕ) (t : Tally) → length h ≡ 94 → kindOf r ≡ BatchControl → ControlRead h t r → batchControlOf (numbered b h) t ≡ normal BatchControl b n r
+  pub control-normal : (b n : ℕ) (h : List ℕ) (t : Tally) → length h ≡ 94 → kindOf r ≡ BatchControl → ControlRead h t r
+      → batchControlOf (numbered b h) t ≡ normal BatchControl b n r
   unfolding batchControlOf normal kindOf numbered
   control-normal b n h t lh k c =
       let of : (a m : ℕ) → a + m ≤ 87 → take m (drop a (take 87 h ++ spelled 7 b)) ≡ take m (drop a h) = λ a m q. field-front a m h (spelled 7 b) q (omega arith) in
@@ -178,7 +178,8 @@ module _ (r : List ℕ) (l : length r ≡ 94) where
       ⊕ (of 79 8 (omega arith) ∙ sym (same→eq (field r 80 87) (field h 80 87) (c .sender)))
       ⊕ field-numbered b h (omega arith)
 
-  pub total-normal : (b n all count : ℕ) (t : Tally) → kindOf r ≡ FileControl → TotalRead all count t r → fileControlOf all count t ≡ normal FileControl b n r
+  pub total-normal : (b n all count : ℕ) (t : Tally) → kindOf r ≡ FileControl → TotalRead all count t r
+      → fileControlOf all count t ≡ normal FileControl b n r
   unfolding fileControlOf normal kindOf
   total-normal b n all count t k c =
       (sym (one-of r 0 (omega arith) ∙ ap (λ (x : ℕ). x ∷ []) (kind-byte (getD r 0 0) .1 k))

@@ -31,7 +31,8 @@ all-snoc [] f = append-nil (recordsOf f)
 all-snoc (x ∷ fs) f = ap (λ (l : List (List ℕ)). recordsOf x ++ l) (all-snoc fs f) ∙ sym (append-assoc (recordsOf x) (allRecords fs) (recordsOf f))
 
 -- a presentation that is accepted was accepted by the reading, and its key was new
-pub presented-new : (s : Session) (file : List ℕ) → answerTo s file ≡ accepted → (reading (s .rules) file ≡ accepted) × (getD (s .used) (keyOf file) false ≡ false)
+pub presented-new : (s : Session) (file : List ℕ) → answerTo s file ≡ accepted
+    → (reading (s .rules) file ≡ accepted) × (getD (s .used) (keyOf file) false ≡ false)
 unfolding answerTo
 presented-new s file h =
     let used : Bool = getD (s .used) (keyOf file) false in
@@ -48,7 +49,8 @@ unfolding postingsOf allRecords ownPostings presenting answerTo withAccepted
 postings-came (opened date currency entities) = refl
 postings-came (presented {s} {files} c file) = go (answerTo s file) refl (postings-came c)
   where
-    go : (a : Said) → answerTo s file ≡ a → postingsOf files ≡ ownPostings (allRecords files) → postingsOf (withAccepted a files file) ≡ ownPostings (allRecords (withAccepted a files file))
+    go : (a : Said) → answerTo s file ≡ a → postingsOf files ≡ ownPostings (allRecords files)
+        → postingsOf (withAccepted a files file) ≡ ownPostings (allRecords (withAccepted a files file))
     go (refused n place) e h = h
     go accepted e h =
         postingsOf-snoc files file
@@ -63,11 +65,13 @@ unfolding postingsNaming ownPostings naming postedBy names namedBy posting ownPo
 naming-own e [] = refl
 naming-own e (r ∷ rs) = step (kindOf r) (naming-own e rs)
   where
-    six : (b : Bool) → postingsNaming e (ownPostings rs) ≡ map ownPosting (naming e rs) → cond b (ownPosting r ∷ postingsNaming e (ownPostings rs)) (postingsNaming e (ownPostings rs)) ≡ map ownPosting (cond b (r ∷ naming e rs) (naming e rs))
+    six : (b : Bool) → postingsNaming e (ownPostings rs) ≡ map ownPosting (naming e rs)
+        → cond b (ownPosting r ∷ postingsNaming e (ownPostings rs)) (postingsNaming e (ownPostings rs)) ≡ map ownPosting (cond b (r ∷ naming e rs) (naming e rs))
     six true h = ap (λ (l : List Posting). ownPosting r ∷ l) h
     six false h = h
 
-    step : (k : Kind) → postingsNaming e (ownPostings rs) ≡ map ownPosting (naming e rs) → postingsNaming e (postedBy k (entity (field r 80 87)) r ++ ownPostings rs) ≡ map ownPosting (cond (names k e r) (r ∷ naming e rs) (naming e rs))
+    step : (k : Kind) → postingsNaming e (ownPostings rs) ≡ map ownPosting (naming e rs)
+        → postingsNaming e (postedBy k (entity (field r 80 87)) r ++ ownPostings rs) ≡ map ownPosting (cond (names k e r) (r ∷ naming e rs) (naming e rs))
     step FileHeader h = h
     step BatchHeader h = h
     step Individual h = six (names Individual e r) h

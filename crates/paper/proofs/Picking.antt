@@ -10,9 +10,8 @@ use Rattle.paper.specs.declared.record.Kind.{Kind}
 use Rattle.paper.specs.declared.record.Kind.the-variants.{FileHeader, BatchHeader, Individual, Additional, BatchControl, FileControl, Other}
 use Rattle.paper.specs.declared.rules.Rules.{Rules}
 use Rattle.paper.specs.Answers.{accepted}
-use Rattle.paper.specs.Fields.{is, number}
 use Rattle.paper.specs.Kinds.{kindOf}
-use Rattle.paper.specs.Reading.{State, start, beforeNext, next, at, recordsOf, reading}
+use Rattle.paper.specs.Reading.{State, start, beforeNext, next, recordsOf, reading}
 use Rattle.paper.specs.Writing.{numbered}
 use Rattle.paper.specs.Extract.{Item, Batch, Groups, prepended, grouped, batchesOf, isTo, itemsTo, holding, batchesTo, itemRecords, batchRecords}
 use Rattle.paper.specs.Demands.{Reads}
@@ -142,6 +141,7 @@ no-items-first rules file h =
     rw (e, k) (none-before rules (next start hd) (a .first .0) (ap (λ (x : Kind). beforeNext x hd) k) (rd .1))
 
 -- what one pass picks is what the extract holds
-pub picked-batches : (rules : Rules) (e : ℕ) (file : List ℕ) → reading rules file ≡ accepted → picked e notYet (recordsOf file) ≡ batchRecords 0 (batchesTo e (batchesOf file))
+pub picked-batches : (rules : Rules) (e : ℕ) (file : List ℕ) → reading rules file ≡ accepted
+    → picked e notYet (recordsOf file) ≡ batchRecords 0 (batchesTo e (batchesOf file))
 unfolding batchesOf rest notYet waits itemRecords itemsTo
 picked-batches rules e file h = picked-rest e (recordsOf file) notYet ∙ rw (no-items-first rules file h)

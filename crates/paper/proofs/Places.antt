@@ -18,7 +18,7 @@ use Rattle.paper.specs.Checks.{fine}
 use Rattle.paper.specs.Fields.{field, every, good, is}
 use Rattle.paper.specs.Entities.{entity}
 use Rattle.paper.specs.Kinds.{kindOf}
-use Rattle.paper.specs.Reading.{counted, State, start, flag, beforeNext, next, fields, at, parts, recordsOf, reading}
+use Rattle.paper.specs.Reading.{counted, State, start, flag, beforeNext, next, fields, parts, recordsOf, reading}
 use Rattle.paper.specs.Postings.{Posting, posting, postedBy, senderAfter, postingsFrom, postings}
 use Rattle.paper.specs.Demands.{Reads}
 use Rattle.paper.proofs.Accepted.{individual-read, Follows, file-begins, batch-opens, file-ends, first-individual, its-additional, next-individual, batch-closes, judged-facts, accepted-facts}
@@ -51,7 +51,8 @@ pub record Here (rules : Rules) (r : List ℕ) : Type 0 where
   pub facts : Facts rules (kindOf r) r
 
 -- record i of an accepted file
-pub record-facts : (rules : Rules) (file : List ℕ) → reading rules file ≡ accepted → (i : ℕ) → i < length file / 94 → Here rules (take 94 (drop (i * 94) file))
+pub record-facts : (rules : Rules) (file : List ℕ) → reading rules file ≡ accepted → (i : ℕ) → i < length file / 94
+    → Here rules (take 94 (drop (i * 94) file))
 unfolding recordsOf
 record-facts rules file h i l =
     let a : AllFacts rules (take 94 (drop (i * 94) file) ∷ drop (suc i) (recordsOf file)) = rw (parts-from 94 (length file / 94) file i l) at (facts-drop rules (recordsOf file) i (file-facts rules file h)) in
@@ -72,7 +73,8 @@ Sent Flagged b n = n ≡ entity (field b 80 87)
 Sent Inside b n = n ≡ entity (field b 80 87)
 Sent Ended b n = Unit {0}
 
-own-postings : (rules : Rules) (rs : List (List ℕ)) (s : State) (n : ℕ) → Sent (s .before) (s .counts .header) n → Reads rules s rs → postingsFrom n rs ≡ ownPostings rs
+own-postings : (rules : Rules) (rs : List (List ℕ)) (s : State) (n : ℕ) → Sent (s .before) (s .counts .header) n → Reads rules s rs
+    → postingsFrom n rs ≡ ownPostings rs
 unfolding postingsFrom ownPostings next beforeNext counted fields flag postedBy senderAfter
 own-postings rules [] s n i h = refl
 own-postings rules (r ∷ rs) s n i h =
@@ -84,12 +86,14 @@ own-postings rules (r ∷ rs) s n i h =
     inside true x = x
     inside false x = x
 
-    six : n ≡ entity (field (s .counts .header) 80 87) → fields Individual rules s r ≡ fine → postedBy Individual n r ≡ postedBy Individual (entity (field r 80 87)) r
+    six : n ≡ entity (field (s .counts .header) 80 87) → fields Individual rules s r ≡ fine
+        → postedBy Individual n r ≡ postedBy Individual (entity (field r 80 87)) r
     six i f =
         let o = individual-read rules (s .counts .header) (s .counts .counter) r f in
         ap (λ (m : ℕ). postedBy Individual m r) (i ∙ ap entity (sym (own-sender (s .counts .header) (s .counts .counter) r (o .counter))))
 
-    go : (b : Before) (k : Kind) → Follows b k → Sent b (s .counts .header) n → fields k rules s r ≡ fine → (postedBy k n r ≡ postedBy k (entity (field r 80 87)) r) × Sent (beforeNext k r) (counted k (s .counts) r .header) (senderAfter k n r)
+    go : (b : Before) (k : Kind) → Follows b k → Sent b (s .counts .header) n → fields k rules s r ≡ fine
+        → (postedBy k n r ≡ postedBy k (entity (field r 80 87)) r) × Sent (beforeNext k r) (counted k (s .counts) r .header) (senderAfter k n r)
     go b k file-begins i f = (refl, tt)
     go b k batch-opens i f = (refl, refl)
     go b k file-ends i f = (refl, tt)

@@ -79,7 +79,8 @@ bounded-came (presented {s} {files} c file) = go (answerTo s file) refl (bounded
         }
 
 -- no position leaves 64 bits
-pub position-fits : {s : Session} {files : List (List ℕ)} → Came s files → (e : ℕ) → e < 500 → natAbs ((getD (s .cells) e zeroCell) .position) < 2 ^ 63
+pub position-fits : {s : Session} {files : List (List ℕ)} → Came s files → (e : ℕ) → e < 500
+    → natAbs ((getD (s .cells) e zeroCell) .position) < 2 ^ 63
 position-fits {s} {files} c e l =
     let b = bounded-came c in
     rw (figures c e l .position) (omega (arith, position-bound e (postingsOf files) (b .below), b .count, files-bound c))

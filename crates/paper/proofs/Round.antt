@@ -14,7 +14,7 @@ use Rattle.paper.specs.declared.rules.Rules.{Rules}
 use Rattle.paper.specs.Answers.{accepted, require}
 use Rattle.paper.specs.Fields.{bytes, field, is}
 use Rattle.paper.specs.Kinds.{kind, kindOf}
-use Rattle.paper.specs.Reading.{Counts, nothingCounted, counted, at, parts, reading}
+use Rattle.paper.specs.Reading.{Counts, nothingCounted, counted, parts, reading}
 use Rattle.paper.specs.Writing.{joined, numbered, batchControlOf, fileControlOf, owed, owedBefore, ending, withControls, closing}
 use Rattle.paper.specs.Trays.{trayRecords, markGood, trayRecordGood, trayFault, batchesAfter, individualsAfter, numberedBy, numbering, build, zeroed, marked, stripped, strip}
 use Rattle.paper.proofs.Tests.{and-l, and-r, same→eq}
@@ -74,7 +74,8 @@ restored mark n t l g z =
     ∙ ap (λ (m : List ℕ). m ++ drop 2 t) (sym (same→eq (take 2 t) (bytes mark) g))
     ∙ take-append-drop 2 t
 
-marked-numbered : (k : Kind) (b n : ℕ) (t : List ℕ) → kindOf (drop 2 t) ≡ k → length t ≡ 96 → T (markGood k (take 2 t)) → field (drop 2 t) 88 94 ≡ bytes "0000000"
+marked-numbered : (k : Kind) (b n : ℕ) (t : List ℕ) → kindOf (drop 2 t) ≡ k → length t ≡ 96 → T (markGood k (take 2 t))
+    → field (drop 2 t) 88 94 ≡ bytes "0000000"
     → marked (kindOf (numberedBy k b n (drop 2 t))) (numberedBy k b n (drop 2 t)) ≡ t ∷ []
 unfolding numberedBy marked markGood
 marked-numbered FileHeader b n t e l g z = absurd g
@@ -130,7 +131,8 @@ bodies-sized (t ∷ ts) z = (body t (z .0), bodies-sized ts (z .1))
 -- ---- the theorem
 
 -- the tray is a multiple of 96 bytes and passes 207, the header is 94 bytes that begin with 1
-round : (header tray : List ℕ) → length header ≡ 94 → kindOf header ≡ FileHeader → length tray % 96 ≡ 0 → trayFault 0 (trayRecords tray) ≡ accepted → strip (build header tray) ≡ tray
+round : (header tray : List ℕ) → length header ≡ 94 → kindOf header ≡ FileHeader → length tray % 96 ≡ 0 → trayFault 0 (trayRecords tray) ≡ accepted
+    → strip (build header tray) ≡ tray
 unfolding strip build stripped trayRecords marked
 round header tray h k m f =
     let ts : List (List ℕ) = parts 96 (length tray / 96) tray in

@@ -133,7 +133,8 @@ own e (p ∷ ps) = go (eqb e (p .sender)) (eqb e (p .destination)) refl refl (ow
       received = ap (λ (n : ℕ). cond (eqb e (p .destination)) 1 0 + n) (o .received);
     })
 
-    go : (a b : Bool) → eqb e (p .sender) ≡ a → eqb e (p .destination) ≡ b → Own e ps (postingsNaming e ps) → Own e (p ∷ ps) (postingsNaming e (p ∷ ps))
+    go : (a b : Bool) → eqb e (p .sender) ≡ a → eqb e (p .destination) ≡ b → Own e ps (postingsNaming e ps)
+        → Own e (p ∷ ps) (postingsNaming e (p ∷ ps))
     go true b x y o = both (rw (x, namedBy)) o
     go false true x y o = both (rw (x, y, namedBy)) o
     go false false x y o = rw (x, y, namedBy) (record { position = rw (x, y, effect) (+ℤ-idl _ ∙ o .position); sent = rw x (zero-add _ ∙ o .sent); received = rw y (zero-add _ ∙ o .received) })

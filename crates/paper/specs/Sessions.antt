@@ -47,18 +47,17 @@ newSession date currency entities = record {
   used = replicate 18000 false;
 }
 
--- a refused opening returns a session of 000101, pesos, empty roster
-unfoldable pub refusedOpening : ℕ → Reply
-refusedOpening n = record { answer = refused n 0; session = newSession 101 Pesos [] }
-
 -- a bad date is 75; then a number not 1 to 499 is 208
-unfoldable pub openingIf : Bool → Bool → ℕ → Currency → List ℕ → Reply
-openingIf false inRange date currency entities = refusedOpening 75
-openingIf true false date currency entities = refusedOpening 208
-openingIf true true date currency entities = record { answer = accepted; session = newSession date currency entities }
+unfoldable pub openingAnswer : ℕ → List ℕ → Said
+openingAnswer date entities = andThen (require (isDate date) 75 0) (require (every (within 1 499) entities) 208 0)
+
+-- a refused opening returns a session of 000101, pesos, empty roster
+unfoldable pub openedWith : Said → ℕ → Currency → List ℕ → Session
+openedWith accepted date currency entities = newSession date currency entities
+openedWith (refused n place) date currency entities = newSession 101 Pesos []
 
 unfoldable pub opening : ℕ → Currency → List ℕ → Reply
-opening date currency entities = openingIf (isDate date) (every (within 1 499) entities) date currency entities
+opening date currency entities = record { answer = openingAnswer date entities; session = openedWith (openingAnswer date entities) date currency entities }
 
 -- ---- presenting
 
