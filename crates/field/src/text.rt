@@ -1,9 +1,8 @@
 // The bytes of a field.
 ghost use mathlib.Core.Path.{_≡_};
-ghost use mathlib.Core.Bool.{_||_};
 ghost use Prim.Native.Nat.{_+_, _-_};
 ghost use lib.ListN.{length};
-ghost use Rattle.paper.specs.Fields.{field, every, good, digit, capital, blank, same};
+ghost use Rattle.paper.specs.Fields.{field, every, good, blank, identifierField, same};
 ghost use Rattle.field.specs.Part.{Inside};
 use crate::byte;
 
@@ -86,7 +85,7 @@ pub fn reads(rec: &[u8], first: usize, last: usize, text: &[u8]) -> bool
 // A digit or a capital at one position.
 pub fn identifier(rec: &[u8], at: usize) -> bool
     requires { ⌜ Inside (now rec) at at ⌝ }
-    ensures { λ r. ⌜ r ≡ every (λ b. digit b || capital b) (field (now (rec .entry)) at at) ⌝ }
+    ensures { λ r. ⌜ r ≡ identifierField (field (now (rec .entry)) at at) ⌝ }
 {
     let b = rec[at - 1];
     byte::digit(b) | byte::capital(b)

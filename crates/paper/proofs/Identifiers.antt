@@ -13,7 +13,7 @@ use Rattle.paper.specs.declared.record.Kind.{Kind}
 use Rattle.paper.specs.declared.rules.Rules.{Rules}
 use Rattle.paper.specs.Answers.{Said, accepted, refused, andThen, require}
 use Rattle.paper.specs.Checks.{fine}
-use Rattle.paper.specs.Fields.{field, among, every, digit, capital}
+use Rattle.paper.specs.Fields.{field, among, every, digit, capital, identifierField}
 use Rattle.paper.specs.Records.{fileHeader}
 use Rattle.paper.specs.Reading.{start, fields, reading}
 use Rattle.paper.specs.Sessions.{Session, newSession, originOf, identifierIf, identifierOf, keyOf, answerTo, sessionAfter, presenting}
@@ -26,7 +26,7 @@ use Rattle.paper.proofs.Own.{presented-new}
 
 -- ---- an identifier is one of 36
 
-header-identifier : (rules : Rules) (r : List ℕ) → fileHeader rules r ≡ fine → T (every (λ b. digit b || capital b) (field r 34 34))
+header-identifier : (rules : Rules) (r : List ℕ) → fileHeader rules r ≡ fine → T (identifierField (field r 34 34))
 unfolding fileHeader
 header-identifier rules r h = search (also-l, also-r, need-T) depth 12
 
@@ -51,7 +51,7 @@ identifies b t = or-go (digit b) (capital b) t
 
 -- position 34 of an accepted file
 identifier-good : (rules : Rules) (file : List ℕ) → reading rules file ≡ accepted → T (digit (getD file 33 0) || capital (getD file 33 0))
-unfolding every
+unfolding identifierField every
 identifier-good rules file h =
     let a = accepted-facts rules file h in
     let l : length (take 94 file) ≡ 94 = length-take-le 94 file (omega (arith, a .long)) in

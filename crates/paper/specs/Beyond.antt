@@ -10,7 +10,7 @@ use Rattle.paper.specs.Answers.{accepted, refused}
 use Rattle.paper.specs.Sessions.{Session, opening, presenting}
 use Rattle.paper.specs.Trays.{strip}
 use Rattle.paper.specs.CaseL.{lines, caseL, empty, put}
-use Rattle.paper.specs.Claims.{characters, reads, opens, answers, presents, holds, extracts, builds, strips, Row, case, wrote, gave}
+use Rattle.paper.specs.Claims.{characters, dates, noDates, reads, opens, answers, presents, holds, extracts, builds, strips, Row, case, wrote, gave}
 use Rattle.paper.specs.Marked.{today, cell}
 
 -- all entities but one
@@ -53,10 +53,15 @@ beyond =
     case 14 (answers (after (put 0 34 "0" empty)) empty accepted) ∷
     case 14 (answers (after empty) (put 0 34 "B" empty) accepted) ∷
     case 14 (answers (after empty) (put 0 19 "0009" empty) (refused 209 0)) ∷
+    case 14 (answers (after empty) (put 0 19 "9009" empty) (refused 209 0)) ∷
+    case 14 (answers (after (put 0 34 "9" empty)) empty accepted) ∷
     case 14 (answers (after empty) (put 0 15 "0402" empty) accepted) ∷
     case 14 (answers (after empty) (put 2 30 "0000000000" caseL) (refused 19 2)) ∷
-    -- characters: that is 57
-    case 15 (characters 57) ∷
+    -- characters: all 57 of them, as document 004 prints the set
+    case 15 (characters " !#$%()*+,-./0123456789:;<=>?@ABCDEFGHIJKLMNOPQRSTUVWXYZ_") ∷
+    -- dates: the last day of each month, and the day after it
+    case 15 (dates (250131 ∷ 250228 ∷ 250331 ∷ 250430 ∷ 250531 ∷ 250630 ∷ 250731 ∷ 250831 ∷ 250930 ∷ 251031 ∷ 251130 ∷ 251231 ∷ 240229 ∷ 229 ∷ 101 ∷ 991231 ∷ 960229 ∷ [])) ∷
+    case 15 (noDates (250132 ∷ 250229 ∷ 250332 ∷ 250431 ∷ 250532 ∷ 250631 ∷ 250732 ∷ 250832 ∷ 250931 ∷ 251032 ∷ 251131 ∷ 251232 ∷ 0 ∷ 100 ∷ 1 ∷ 250100 ∷ 250001 ∷ 251301 ∷ 250931 ∷ 240230 ∷ 230 ∷ 991232 ∷ 1000101 ∷ 1250630 ∷ [])) ∷
     -- length
     case 15 (reads (today Pesos) (drop 1 empty) (refused 201 0)) ∷
     case 15 (reads (today Pesos) (take 94 empty) (refused 201 0)) ∷
@@ -147,6 +152,8 @@ beyond =
     -- opening
     case 22 (opens 230229 Pesos (0 ∷ []) (refused 75 0)) ∷
     case 22 (opens 240229 Pesos (1 ∷ 500 ∷ []) (refused 208 0)) ∷
+    case 22 (opens 240229 Pesos (0 ∷ []) (refused 208 0)) ∷
+    case 22 (opens 240229 Pesos (1 ∷ 499 ∷ 1 ∷ []) accepted) ∷
     case 22 (opens 1000101 Pesos [] (refused 75 0)) ∷
     case 22 (reads ((opening 230229 Dollars (401 ∷ [])) .session .rules) (put 0 24 "000101" empty) (refused 204 0)) ∷
     case 22 (reads ((opening 230229 Dollars (401 ∷ [])) .session .rules) (put 0 15 "0901" (put 0 24 "000101" empty)) (refused 203 0)) ∷
@@ -173,6 +180,7 @@ beyond =
     case 24 (builds (today Dollars) (take 94 caseL) (strip caseL) (replicate 941 46) (gave 203 0 (replicate 940 32 ++ 46 ∷ []))) ∷
     case 24 (builds (today Pesos) (take 94 caseL) (trayWith 3 0 88) (replicate 940 46) (gave 207 3 (replicate 940 46))) ∷
     case 24 (builds (today Pesos) (take 94 caseL) (trayWith 1 2 53) (replicate 940 46) (gave 207 1 (replicate 940 46))) ∷
+    case 24 (builds (today Pesos) (take 94 caseL) (trayWith 2 89 49) (replicate 940 46) (gave 207 2 (replicate 940 46))) ∷
     case 24 (builds (today Pesos) (take 94 caseL) (trayWith 5 95 32) (replicate 940 46) (gave 207 5 (replicate 940 46))) ∷
     case 24 (builds (today Pesos) (take 93 caseL) (strip caseL) (replicate 940 46) (gave 207 0 (replicate 940 46))) ∷
     case 24 (builds (today Pesos) (take 94 caseL) (take 575 (strip caseL)) (replicate 940 46) (gave 207 0 (replicate 940 46))) ∷

@@ -1,25 +1,29 @@
 -- Questions put to the definitions, each with the answer that is claimed.
 use Prim.Native.Nat.{ℕ, zero, suc, _+_}
+use Prim.Native.String.{String}
 use mathlib.Core.Path.{_≡_}
-use mathlib.Core.Bool.{true, false, cond}
+use mathlib.Core.Bool.{true, false, not, cond}
 use mathlib.Core.List.{List, [], _∷_, map}
 use lib.ListN.{getD, replicate}
 use Rattle.paper.specs.declared.rules.Rules.{Rules}
 use Rattle.paper.specs.declared.rules.Currency.{Currency}
 use Rattle.paper.specs.declared.ledger.Cell.{Cell}
 use Rattle.paper.specs.Answers.{Said, accepted, refused}
-use Rattle.paper.specs.Fields.{good}
+use Rattle.paper.specs.Fields.{bytes, every, good}
+use Rattle.paper.specs.Dates.{isDate}
 use Rattle.paper.specs.Reading.{reading}
 use Rattle.paper.specs.Sessions.{Session, zeroCell, opening, presenting}
 use Rattle.paper.specs.Buffers.{Outcome, extracting, building, stripping}
 
--- how many of the bytes below n are good
-unfoldable pub goodBelow : ℕ → ℕ
-goodBelow zero = 0
-goodBelow (suc n) = goodBelow n + cond (good n) 1 0
+-- the good ones of n bytes from b on
+unfoldable pub goodFrom : ℕ → ℕ → List ℕ
+goodFrom zero b = []
+goodFrom (suc n) b = let rest = goodFrom n (b + 1) in cond (good b) (b ∷ rest) rest
 
 pub data Claim : Type 0 where
-  characters : ℕ → Claim
+  characters : String → Claim
+  dates : List ℕ → Claim
+  noDates : List ℕ → Claim
   reads : Rules → List ℕ → Said → Claim
   opens : ℕ → Currency → List ℕ → Said → Claim
   answers : Session → List ℕ → Said → Claim
@@ -30,7 +34,9 @@ pub data Claim : Type 0 where
   strips : Rules → List ℕ → List ℕ → Outcome → Claim
 
 abbrev pub Holds : Claim → Type 0
-Holds (characters n) = goodBelow 256 ≡ n
+Holds (characters text) = goodFrom 256 0 ≡ bytes text
+Holds (dates ns) = every isDate ns ≡ true
+Holds (noDates ns) = every (λ n. not (isDate n)) ns ≡ true
 Holds (reads rules file answer) = reading rules file ≡ answer
 Holds (opens date currency entities answer) = opening date currency entities .answer ≡ answer
 Holds (answers s file answer) = presenting s file .answer ≡ answer

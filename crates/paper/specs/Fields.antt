@@ -48,6 +48,10 @@ digits f = every digit f
 abbrev pub blank : List ℕ → Bool
 blank f = every (eqb 32) f
 
+-- a digit or capital
+unfoldable pub identifierField : List ℕ → Bool
+identifierField f = every (λ b. digit b || capital b) f
+
 -- two fields are the same
 unfoldable pub same : List ℕ → List ℕ → Bool
 same [] [] = true

@@ -5,7 +5,7 @@ use mathlib.Core.List.{List}
 use lib.Dec.{ltb}
 use Rattle.paper.specs.declared.rules.Rules.{Rules}
 use Rattle.paper.specs.Checks.{Check, need, _also_}
-use Rattle.paper.specs.Fields.{field, every, digit, capital, digits, blank, same, is, number, spells}
+use Rattle.paper.specs.Fields.{field, digits, blank, identifierField, same, is, number, spells}
 use Rattle.paper.specs.Dates.{dateField, timeField}
 use Rattle.paper.specs.Entities.{entityField, ofCurrency, onRoster}
 use Rattle.paper.specs.Kinds.{codeOf, known, isOrder, takes01, rejects}
@@ -18,7 +18,7 @@ fileHeader rules r =
     also need (is (field r 14 14) " " && entityField (field r 15 22) && is (field r 23 23) "0") 17
     also need (dateField (field r 24 29) && spells (field r 24 29) (rules .date)) 75
     also need (timeField (field r 30 33)) 17
-    also need (every (λ b. digit b || capital b) (field r 34 34)) 17
+    also need (identifierField (field r 34 34)) 17
     also need (is (field r 35 40) "094101") 17
     also need (ofCurrency (rules .currency) (field r 15 22)) 203
     also need (onRoster (rules .roster) (field r 15 22)) 204

@@ -1,13 +1,13 @@
 use mathlib.Core.Bool.{and-true}
 use mathlib.Core.Path.{sym}
 use borrow.Author.Needs.{needs}
-use Rattle.paper.specs.Fields.{every}
+use Rattle.paper.specs.Fields.{every, identifierField}
 use Rattle.field.proofs.Part.{one-position}
 use Rattle.field.proofs.text.identifier.Statement.{statement}
 use Rattle.field.proofs.text.identifier.Tie as tie
 
 returns : tie.Need-returns
-unfolding every
+unfolding every identifierField
 returns c =
     let e = c .before .before .before .before in
     rw (one-position (e .args .rec .now) (e .args .at) (e .pre), c .before .digit .ensures, c .capital .ensures) (sym (and-true _))
