@@ -19,8 +19,9 @@ use Rattle.paper.specs.Fields.{field, within, every, good, digits, same,
 use Rattle.paper.specs.Dates.{dateField}
 use Rattle.paper.specs.Entities.{ofCurrency, entityField, onRoster}
 use Rattle.paper.specs.Kinds.{kindOf, codeOf, known, allowed}
-use Rattle.paper.specs.Records.{batchHeader, amountOf, counterGood, individual}
-use Rattle.paper.specs.Controls.{Tally, batchControl, blocks, fileControl}
+use Rattle.paper.specs.Records.{member, memberField, batchHeader, amountOf, counterGood, transfer, individual}
+use Rattle.paper.specs.declared.record.Tally.{Tally}
+use Rattle.paper.specs.Controls.{batchControl, blocks, fileControl}
 use Rattle.paper.specs.Reading.{State, start, next, fields, judged, finish, at, readingFrom, parts, recordsOf, lengthGood, reading}
 use Rattle.paper.specs.Writing.{joined}
 use Rattle.paper.specs.Demands.{Reads, FirstFault}
@@ -132,7 +133,7 @@ pub record IndividualRead (rules : Rules) (header : List ℕ) (before : ℕ) (r 
 
 pub individual-read : (rules : Rules) (header : List ℕ) (before : ℕ) (r : List ℕ) → individual rules header before r ≡ fine
     → IndividualRead rules header before r
-unfolding individual
+unfolding individual transfer memberField member
 individual-read rules header before r h = search (also-l, also-r, need-T) depth 20
 
 pub record ControlRead (header : List ℕ) (t : Tally) (r : List ℕ) : Type 0 where
@@ -171,7 +172,7 @@ pub record BatchRead (rules : Rules) (r : List ℕ) : Type 0 where
   pub number : T (digits (field r 88 94))
 
 pub batch-read : (rules : Rules) (r : List ℕ) → batchHeader rules r ≡ fine → BatchRead rules r
-unfolding batchHeader
+unfolding batchHeader memberField member
 batch-read rules r h = search (also-l, also-r, need-T) depth 14
 
 -- ---- the order of types

@@ -16,7 +16,8 @@ use Rattle.paper.specs.Answers.{accepted}
 use Rattle.paper.specs.Checks.{fine}
 use Rattle.paper.specs.Fields.{bytes, field, is}
 use Rattle.paper.specs.Kinds.{kindOf}
-use Rattle.paper.specs.Controls.{Tally, plus, withIndividual, withAdditional}
+use Rattle.paper.specs.declared.record.Tally.{Tally}
+use Rattle.paper.specs.Controls.{plus, withIndividual, withAdditional}
 use Rattle.paper.specs.Reading.{Counts, nothingCounted, counted, State, start, flag, beforeNext, next, fields, parts, recordsOf, reading}
 use Rattle.paper.specs.Writing.{blanks, joined, numbered, batchControlOf, fileControlOf, owed, settled, owedBefore, settledBefore, ending, withControls, closing}
 use Rattle.paper.specs.Trays.{trayRecords, batchesAfter, individualsAfter, numberedBy, numbering, build, zeroed, marked, stripped, strip}

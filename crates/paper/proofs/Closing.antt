@@ -7,7 +7,7 @@ use lib.ListN.{length, length-append, length-take, length-drop}
 use Rattle.paper.specs.declared.record.Kind.{Kind}
 use Rattle.paper.specs.declared.record.Kind.the-variants.{FileHeader, BatchHeader, Individual, Additional, BatchControl, FileControl, Other}
 use Rattle.paper.specs.Kinds.{kindOf}
-use Rattle.paper.specs.Controls.{Tally}
+use Rattle.paper.specs.declared.record.Tally.{Tally}
 use Rattle.paper.specs.Reading.{Counts, nothingCounted, counted, recordsOf}
 use Rattle.paper.specs.Writing.{blanks, batchControlOf, fileControlOf, owed, owedBefore, settledBefore, ending, withControls, closing}
 use Rattle.paper.proofs.Lists.{Sized, sized-append, length-joined, records-joined, length-spelled}

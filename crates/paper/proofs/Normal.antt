@@ -12,7 +12,8 @@ use Rattle.paper.specs.declared.record.Kind.the-variants.{FileHeader, Ba
 use Rattle.paper.specs.Fields.{bytes, field, spells}
 use Rattle.paper.specs.Kinds.{kind, kindOf, codeOf}
 use Rattle.paper.specs.Records.{amountOf}
-use Rattle.paper.specs.Controls.{Tally, withIndividual, blocks}
+use Rattle.paper.specs.declared.record.Tally.{Tally}
+use Rattle.paper.specs.Controls.{withIndividual, blocks}
 use Rattle.paper.specs.Writing.{spelled, blanks, numbered, batchControlOf, fileControlOf}
 use Rattle.paper.specs.Trays.{batchesAfter, individualsAfter, zeroed}
 use Rattle.paper.specs.Demands.{Tidy}

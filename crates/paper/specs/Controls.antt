@@ -2,17 +2,11 @@
 use Prim.Native.Nat.{ℕ, _+_, _/_, _%_, _^_}
 use mathlib.Core.Bool.{cond}
 use mathlib.Core.List.{List}
+use Rattle.paper.specs.declared.record.Tally.{Tally}
 use Rattle.paper.specs.Checks.{Check, need, _also_}
 use Rattle.paper.specs.Fields.{field, same, number, spells}
 use Rattle.paper.specs.Kinds.{codeOf, collects, pays}
 use Rattle.paper.specs.Records.{amountOf}
-
--- number of types 6 and 7; sum of the individual records' fields 4-11; amounts of codes 37 and 36; amounts of 32 and 31
-pub record Tally : Type 0 where
-  pub records : ℕ
-  pub destinations : ℕ
-  pub debits : ℕ
-  pub credits : ℕ
 
 abbrev pub zeros : Tally
 zeros = record { records = 0; destinations = 0; debits = 0; credits = 0 }

@@ -14,7 +14,8 @@ use Rattle.paper.specs.Checks.{Check, fine, wrong, need, _also_}
 use Rattle.paper.specs.Fields.{field, within, every, good, is, number}
 use Rattle.paper.specs.Kinds.{kindOf, allowed}
 use Rattle.paper.specs.Records.{fileHeader, batchHeader, individual, additional}
-use Rattle.paper.specs.Controls.{Tally, zeros, plus, withIndividual, withAdditional, batchControl, fileControl}
+use Rattle.paper.specs.declared.record.Tally.{Tally}
+use Rattle.paper.specs.Controls.{zeros, plus, withIndividual, withAdditional, batchControl, fileControl}
 
 -- what has been counted
 pub record Counts : Type 0 where

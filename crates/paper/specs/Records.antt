@@ -3,12 +3,21 @@ use Prim.Native.Nat.{ℕ}
 use mathlib.Core.Bool.{Bool, true, false, not, _&&_, _||_}
 use mathlib.Core.List.{List}
 use lib.Dec.{ltb}
+use Rattle.paper.specs.declared.rules.Currency.{Currency}
 use Rattle.paper.specs.declared.rules.Rules.{Rules}
 use Rattle.paper.specs.Checks.{Check, need, _also_}
 use Rattle.paper.specs.Fields.{field, digits, blank, identifierField, same, is, number, spells}
 use Rattle.paper.specs.Dates.{dateField, timeField}
 use Rattle.paper.specs.Entities.{entityField, ofCurrency, onRoster}
 use Rattle.paper.specs.Kinds.{codeOf, known, isOrder, takes01, rejects}
+
+-- an entity of the session's currency, and on its roster
+unfoldable pub member : Currency → List Bool → List ℕ → Check
+member currency roster f = need (ofCurrency currency f) 203 also need (onRoster roster f) 204
+
+-- an entity field: 17, its 203, its 204
+unfoldable pub memberField : Currency → List Bool → List ℕ → Check
+memberField currency roster f = need (entityField f) 17 also member currency roster f
 
 -- 1, file header
 unfoldable pub fileHeader : Rules → List ℕ → Check
@@ -20,8 +29,7 @@ fileHeader rules r =
     also need (timeField (field r 30 33)) 17
     also need (identifierField (field r 34 34)) 17
     also need (is (field r 35 40) "094101") 17
-    also need (ofCurrency (rules .currency) (field r 15 22)) 203
-    also need (onRoster (rules .roster) (field r 15 22)) 204
+    also member (rules .currency) (rules .roster) (field r 15 22)
 
 -- 5, batch header; 80-87 is the sender
 unfoldable pub batchHeader : Rules → List ℕ → Check
@@ -32,9 +40,7 @@ batchHeader rules r =
     also need (not (blank (field r 54 63))) 17
     also need (dateField (field r 70 75)) 75
     also need (digits (field r 79 79)) 17
-    also need (entityField (field r 80 87)) 17
-    also need (ofCurrency (rules .currency) (field r 80 87)) 203
-    also need (onRoster (rules .roster) (field r 80 87)) 204
+    also memberField (rules .currency) (rules .roster) (field r 80 87)
     also need (digits (field r 88 94)) 17
 
 -- amount in cents
@@ -57,17 +63,20 @@ flagGood r = is (field r 79 79) "1" || isOrder (codeOf r) && is (field r 77 78) 
 unfoldable pub counterGood : List ℕ → ℕ → List ℕ → Bool
 counterGood header previous r = same (field r 80 87) (field header 80 87) && ltb previous (number (field r 88 94))
 
--- 6, individual, in the batch under a header; `previous` is the number in 88-94 of the individual record before it in the file, 0 for the first
-unfoldable pub individual : Rules → List ℕ → ℕ → List ℕ → Check
-individual rules header previous r =
+-- 6, individual, positions 2 to 54: the code, whereto, how much and for what
+unfoldable pub transfer : Rules → List ℕ → Check
+transfer rules r =
     need (known (codeOf r)) 17
-    also need (entityField (field r 4 11)) 17
-    also need (ofCurrency (rules .currency) (field r 4 11)) 203
-    also need (onRoster (rules .roster) (field r 4 11)) 204
+    also memberField (rules .currency) (rules .roster) (field r 4 11)
     also need (is (field r 12 12) "0") 77
     also need (accountGood r) 78
     also need (digits (field r 30 39) && ltb 0 (amountOf r)) 19
     also need (not (blank (field r 40 54))) 79
+
+-- the whole, in the batch under a header; `previous` is the number in 88-94 of the individual record before it in the file, 0 for the first
+unfoldable pub individual : Rules → List ℕ → ℕ → List ℕ → Check
+individual rules header previous r =
+    transfer rules r
     also need (not (blank (field r 55 76))) 17
     also need (informationGood r) 87
     also need (is (field r 79 79) "0" || is (field r 79 79) "1") 17

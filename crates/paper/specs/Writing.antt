@@ -6,7 +6,8 @@ use Rattle.paper.specs.declared.record.Kind.{Kind}
 use Rattle.paper.specs.declared.record.Kind.the-variants.{FileHeader, BatchHeader, Individual, Additional, BatchControl, FileControl, Other}
 use Rattle.paper.specs.Fields.{bytes, field}
 use Rattle.paper.specs.Kinds.{kindOf}
-use Rattle.paper.specs.Controls.{Tally, blocks}
+use Rattle.paper.specs.declared.record.Tally.{Tally}
+use Rattle.paper.specs.Controls.{blocks}
 use Rattle.paper.specs.Reading.{Counts, nothingCounted, counted}
 
 -- n in so many digits: its last ones, with zeros in front

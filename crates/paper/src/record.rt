@@ -47,3 +47,15 @@ pub enum Before {
     // a 9
     Ended,
 }
+
+// What the controls count.
+pub struct Tally {
+    // types 6 and 7
+    pub records: u64,
+    // sum of the individual records' fields 4-11
+    pub destinations: u64,
+    // amounts of codes 37 and 36
+    pub debits: u64,
+    // amounts of 32 and 31
+    pub credits: u64,
+}

@@ -10,3 +10,9 @@ pub struct Rules {
     pub currency: Currency,
     pub roster: [bool; 500],
 }
+
+// The date and currency alone, for where the roster is lent beside them.
+pub struct Terms {
+    pub date: u64,
+    pub currency: Currency,
+}

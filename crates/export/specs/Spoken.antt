@@ -1,0 +1,16 @@
+-- What is handed over the boundary.
+use Prim.Native.Nat.{ℕ}
+use mathlib.Core.Bool.{Bool, true, false}
+use Rattle.paper.specs.declared.rules.Currency.{Currency}
+use Rattle.paper.specs.declared.rules.Currency.the-variants.{Pesos, Dollars}
+use Rattle.paper.specs.Answers.{Said, accepted, refused}
+use Rattle.export.specs.declared.Spoken.{Spoken}
+
+-- an answer on a file of so many records, as two numbers: 0 and the records, or the refusal number, which is never 0, and the place
+unfoldable pub spokenOf : ℕ → Said → Spoken
+spokenOf records accepted = record { number = 0; place = records }
+spokenOf records (refused n place) = record { number = n; place = place }
+
+abbrev pub currencyOf : Bool → Currency
+currencyOf true = Dollars
+currencyOf false = Pesos

@@ -1,0 +1,3 @@
+pub mod Records
+pub mod Walk
+pub mod Once

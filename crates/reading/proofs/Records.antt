@@ -1,0 +1,97 @@
+-- One record: what its characters and its type's place say of the whole.
+use Prim.Native.Nat.{ℕ, zero, suc, _*_, _<_}
+use mathlib.Core.Bool.{Bool, true, false, _&&_}
+use mathlib.Core.List.{List, [], _∷_}
+use mathlib.Core.Path.{_≡_, refl, sym, _∙_}
+use lib.Dec.{T}
+use lib.ListN.{take, drop}
+use Rattle.paper.specs.declared.record.Before.{Before}
+use Rattle.paper.specs.declared.record.Before.the-variants.{Nothing, Between, Opened, Flagged, Inside, Ended}
+use Rattle.paper.specs.declared.record.Kind.{Kind}
+use Rattle.paper.specs.declared.record.Kind.the-variants.{FileHeader, BatchHeader, Individual, Additional, BatchControl, FileControl, Other}
+use Rattle.paper.specs.declared.rules.Rules.{Rules}
+use Rattle.paper.specs.Checks.{Check, fine, wrong, need, _also_}
+use Rattle.paper.specs.Fields.{every, good}
+use Rattle.paper.specs.Kinds.{kindOf, allowed}
+use Rattle.paper.specs.Reading.{judged, next}
+use Rattle.paper.proofs.Accepted.{wrong-not-fine, Follows, file-begins, batch-opens, file-ends, first-individual, its-additional, next-individual, batch-closes}
+use Rattle.state.specs.declared.State.{State}
+use Rattle.state.specs.States.{recordAt, meant, Outcome, stops, outcome, stepped, Standing}
+
+-- ---- characters
+
+and-first : (a b : Bool) → a && b ≡ true → a ≡ true
+and-first true b h = refl
+and-first false b h = h
+
+and-second : (a b : Bool) → a && b ≡ true → b ≡ true
+and-second true b h = h
+and-second false b h = cc
+
+module _ (test : ℕ → Bool) where
+  every-drop : (n : ℕ) (l : List ℕ) → every test l ≡ true → every test (drop n l) ≡ true
+  unfolding every
+  every-drop zero l h = h
+  every-drop (suc n) [] h = h
+  every-drop (suc n) (b ∷ l) h = every-drop n l (and-second (test b) (every test l) h)
+
+  every-take : (n : ℕ) (l : List ℕ) → every test l ≡ true → every test (take n l) ≡ true
+  unfolding every
+  every-take zero l h = refl
+  every-take (suc n) [] h = h
+  every-take (suc n) (b ∷ l) h = rw (and-first (test b) (every test l) h) (every-take n l (and-second (test b) (every test l) h))
+
+-- where the whole file is good, each record is
+pub clean-record : (file : List ℕ) (place : ℕ) → every good file ≡ true → every good (recordAt file place) ≡ true
+unfolding recordAt
+clean-record file place h = every-take good 94 (drop (place * 94) file) (every-drop good (place * 94) file h)
+
+-- ---- order
+
+-- kinds that stand in a batch, below its header
+abbrev pub inBatch : Kind → Bool
+inBatch FileHeader = false
+inBatch BatchHeader = false
+inBatch Individual = true
+inBatch Additional = true
+inBatch BatchControl = true
+inBatch FileControl = false
+inBatch Other = false
+
+pub header-stands : {b : Before} {k : Kind} (place : ℕ) (st : State) → T (inBatch k) → Follows b k → Standing b place st → st .header < place
+unfolding Standing
+header-stands place st h file-begins s = absurd h
+header-stands place st h batch-opens s = absurd h
+header-stands place st h file-ends s = absurd h
+header-stands place st h first-individual s = s
+header-stands place st h its-additional s = s .0
+header-stands place st h next-individual s = s
+header-stands place st h batch-closes s = s
+
+-- an additional record stands after its individual one
+pub individual-stands : (b : Before) (place : ℕ) (st : State) → allowed b Additional ≡ fine → Standing b place st → st .individual < place
+unfolding allowed Standing
+individual-stands Nothing place st h s = absurd (wrong-not-fine h)
+individual-stands Between place st h s = absurd (wrong-not-fine h)
+individual-stands Opened place st h s = absurd (wrong-not-fine h)
+individual-stands Flagged place st h s = s .1
+individual-stands Inside place st h s = absurd (wrong-not-fine h)
+individual-stands Ended place st h s = absurd (wrong-not-fine h)
+
+-- ---- the whole
+
+-- characters, then whether this type may stand here
+abbrev pub first : List ℕ → ℕ → State → Check
+first file place st = need (every good (recordAt file place)) 17 also allowed (st .before) (kindOf (recordAt file place))
+
+module _ (rules : Rules) (file : List ℕ) (place : ℕ) (st : State) where
+  abbrev whole : Outcome
+  whole = outcome (judged rules (meant file place st) (recordAt file place)) (next (meant file place st) (recordAt file place))
+
+  pub stands : first file place st ≡ fine → stepped rules file place st ≡ whole
+  unfolding stepped judged meant _also_
+  stands h = rw h
+
+  pub falls : {n : ℕ} → first file place st ≡ wrong n → stops n ≡ whole
+  unfolding outcome judged meant _also_
+  falls h = rw h

@@ -1,0 +1,39 @@
+use mathlib.Core.Path.{refl, sym}
+use native.Mathlib.Omega.{arith}
+use borrow.Author.Needs.{needs}
+use Rattle.paper.specs.declared.record.Kind.the-variants.{FileHeader}
+use Rattle.paper.specs.Reading.{fields, beforeNext, lastIndividual, counted}
+use Rattle.record.specs.Verdicts.{told}
+use Rattle.state.specs.States.{meant, heard, Standing, Kept}
+use Rattle.state.proofs.Bounds.{below-more}
+use Rattle.state.proofs.Steps.{goes-on, stops-at, room-next}
+use Rattle.state.proofs.file_header.step.Statement.{statement}
+use Rattle.state.proofs.file_header.step.Tie as tie
+
+returns : tie.Need-returns
+unfolding told meant heard Standing Kept fields beforeNext lastIndividual counted
+returns c =
+    let t = c .before .before in
+    let j = t .before .before in
+    let r = j .before in
+    let a = r .before .before in (
+      goes-on _ _ _ _ FileHeader (a .pre .1 .0)
+          (simp (sym (r .record-at .ensures .0), sym (j .judge .ensures), t .enum-told .given .1)) refl,
+      (room-next _ _ (omega (arith, a .pre .1 .1 .batches)) (below-more _ (omega arith) (a .pre .1 .1 .batch)) (below-more _ (omega arith) (a .pre .1 .1 .closed)), tt),
+    )
+
+returns-2 : tie.Need-returns-2
+unfolding told meant heard Kept fields
+returns-2 c =
+    let j = c .before .before .before in
+    let r = j .before in
+    let a = r .before .before in (
+      stops-at _ _ _ _ FileHeader (a .pre .1 .0) (simp (sym (r .record-at .ensures .0), sym (j .judge .ensures), c .before .fault .given .1)),
+      tt,
+    )
+
+pub step-spec : {M : Type 1} → statement M
+step-spec =
+    tie.close
+    (tie.spec
+    (λ c κs. search needs) (λ c κs. search needs) (λ c. search needs) (λ c. search needs) returns returns-2)

@@ -1,0 +1,79 @@
+-- What a state of the code means, and what a step of it says.
+use Prim.Native.Nat.{ℕ, _+_, _*_, _≤_, _<_}
+use mathlib.Core.List.{List}
+use lib.ListN.{length, take, drop}
+use Rattle.paper.specs.declared.record.Before.{Before}
+use Rattle.paper.specs.declared.record.Before.the-variants.{Nothing, Between, Opened, Flagged, Inside, Ended}
+use Rattle.paper.specs.declared.rules.Rules.{Rules}
+use Rattle.paper.specs.Answers.{numberOf}
+use Rattle.paper.specs.Checks.{Check, fine, wrong}
+use Rattle.paper.specs.Kinds.{kindOf}
+use Rattle.paper.specs.Reading as paper
+use Rattle.state.specs.declared.State.{State}
+use Rattle.state.specs.declared.Step.{Step}
+use Rattle.state.specs.declared.Step.the-variants.{Next, Stop}
+use Rattle.state.specs.Bounds.{Below}
+
+-- the record at a place of a file
+unfoldable pub recordAt : List ℕ → ℕ → List ℕ
+recordAt file place = take 94 (drop (place * 94) file)
+
+-- the paper's state: places stand for the records there
+unfoldable pub meant : List ℕ → ℕ → State → paper.State
+meant file place st = record {
+  before = st .before;
+  individual = recordAt file (st .individual);
+  counts = record {
+    place = place;
+    header = recordAt file (st .header);
+    counter = st .counter;
+    batches = st .batches;
+    batch = st .batch;
+    closed = st .closed;
+  };
+}
+
+-- the state after a record without fault, or the number of its first
+pub data Outcome : Type 0 where
+  goes : paper.State → Outcome
+  stops : ℕ → Outcome
+
+unfoldable pub outcome : Check → paper.State → Outcome
+outcome fine s = goes s
+outcome (wrong n) s = stops n
+
+-- what a step says, at the next record's place
+unfoldable pub heard : List ℕ → ℕ → Step → Outcome
+heard file place (Next st) = goes (meant file place st)
+heard file place (Stop fault) = stops (numberOf fault)
+
+-- room: each of the records before this place adds at most ten digits
+pub record Room (place : ℕ) (st : State) : Type 0 where
+  pub batches : st .batches ≤ place
+  pub batch : Below (10000000000 * place) (st .batch)
+  pub closed : Below (100000000000000 * place) (st .closed)
+
+-- in a batch its header stands before this place, and after a flagged individual so does that one
+unfoldable pub Standing : Before → ℕ → State → Type 0
+Standing Nothing place st = Unit {0}
+Standing Between place st = Unit {0}
+Standing Opened place st = st .header < place
+Standing Flagged place st = (st .header < place) × (st .individual < place)
+Standing Inside place st = st .header < place
+Standing Ended place st = Unit {0}
+
+-- what a step keeps for the next
+unfoldable pub Kept : ℕ → Step → Type 0
+Kept place (Next st) = Room place st × Standing (st .before) place st
+Kept place (Stop fault) = Unit {0}
+
+-- a file that is not too long has a record at this place
+abbrev pub InFile : List ℕ → ℕ → Type 0
+InFile file place = (length file ≤ 940000) × (place * 94 + 94 ≤ length file)
+
+-- what the record at a place comes to, where its characters are good and its type may stand there
+unfoldable pub stepped : Rules → List ℕ → ℕ → State → Outcome
+stepped rules file place st =
+    outcome
+    (paper.fields (kindOf (recordAt file place)) rules (meant file place st) (recordAt file place))
+    (paper.next (meant file place st) (recordAt file place))

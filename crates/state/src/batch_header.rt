@@ -1,0 +1,39 @@
+// 5, batch header.
+ghost use mathlib.Core.Path.{_≡_};
+ghost use Prim.Native.Nat.{_+_};
+ghost use Rattle.paper.specs.declared.record.Kind.the-variants.{BatchHeader};
+ghost use Rattle.paper.specs.Kinds.{kindOf};
+ghost use Rattle.record.specs.Verdicts.{under};
+ghost use Rattle.state.specs.States.{recordAt, heard, stepped, InFile, Room, Kept};
+use crate::State;
+use crate::Step;
+use crate::record_at;
+use crate::tally;
+use paper::record::Before;
+use paper::rules::Terms;
+use record::batch_header;
+use record::verdict::Verdict;
+
+pub fn step(terms: Terms, roster: &[bool; 500], file: &[u8], place: usize, state: State) -> Step
+    requires { ⌜ InFile (now file) place ⌝ }
+    requires { ⌜ kindOf (recordAt (now file) place) ≡ BatchHeader ⌝ }
+    requires { ⌜ Room place state ⌝ }
+    ensures { λ r. ⌜ (heard (now (file .entry)) (place + 1) r ≡ stepped (under terms (now (roster .entry))) (now (file .entry)) place state) × Kept (place + 1) r ⌝ }
+{
+    let rec = record_at(file, place);
+    match batch_header::judge(terms, roster, rec) {
+        Verdict::Right => {
+            let closed = state.closed;
+            Step::Next(State {
+                before: Before::Opened,
+                header: place,
+                individual: state.individual,
+                counter: state.counter,
+                batches: state.batches + 1,
+                batch: tally::NONE,
+                closed: closed,
+            })
+        }
+        Verdict::Wrong(fault) => Step::Stop(fault),
+    }
+}

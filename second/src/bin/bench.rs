@@ -1,0 +1,89 @@
+//! `bench`: both readings on the same good files, in turn, buffers warm.
+
+use std::process::ExitCode;
+
+#[cfg(without_proved_library)]
+fn main() -> ExitCode {
+    eprintln!("bench was built without the proved library: set PROVED_LIBRARY to its folder");
+    ExitCode::from(2)
+}
+
+#[cfg(not(without_proved_library))]
+fn main() -> ExitCode {
+    measuring::run();
+    ExitCode::SUCCESS
+}
+
+#[cfg(not(without_proved_library))]
+mod measuring {
+    use second::generate::good::file_of;
+    use second::generate::random::Random;
+    use second::{proved, read, Rules};
+    use std::hint::black_box;
+    use std::time::Instant;
+
+    const FILES: u64 = 5;
+    const WARM_UP: usize = 20;
+
+    struct Medians {
+        proved: f64,
+        second: f64,
+    }
+
+    pub fn run() {
+        println!("buffers are warm: each file is read {WARM_UP} times by both before measuring");
+        println!("{FILES} files for each size, readings in turn, median of all rounds");
+        let mut ratio = 0.0;
+        for (records, rounds) in [(100, 4_000), (1_000, 1_000), (10_000, 200)] {
+            let medians = measure(records, rounds);
+            ratio = medians.proved / medians.second;
+            println!(
+                "{records:6} records: proved {:9.2} us ({:.1} ns per record), \
+                 second {:9.2} us ({:.1} ns per record), ratio {ratio:.2}",
+                medians.proved,
+                medians.proved * 1_000.0 / records as f64,
+                medians.second,
+                medians.second * 1_000.0 / records as f64,
+            );
+        }
+        println!("ratio at 10000 records: {ratio:.2}");
+    }
+
+    fn measure(records: usize, rounds: usize) -> Medians {
+        let files: Vec<(Rules, Vec<u8>)> = (0..FILES)
+            .map(|number| {
+                let draft = file_of(&mut Random::new(records as u64, number), records);
+                (draft.rules.clone(), draft.bytes())
+            })
+            .collect();
+        let (mut proved_times, mut second_times) = (Vec::new(), Vec::new());
+        for round in 0..WARM_UP + rounds {
+            for (rules, file) in &files {
+                let by_proved = timed(|| proved::read(black_box(rules), black_box(file)).is_ok());
+                let by_second = timed(|| read(black_box(rules), black_box(file)).is_ok());
+                if round >= WARM_UP {
+                    proved_times.push(by_proved);
+                    second_times.push(by_second);
+                }
+            }
+        }
+        Medians {
+            proved: median(proved_times),
+            second: median(second_times),
+        }
+    }
+
+    /// Microseconds of one reading, which must accept.
+    fn timed(reading: impl FnOnce() -> bool) -> f64 {
+        let start = Instant::now();
+        let accepted = black_box(reading());
+        let elapsed = start.elapsed();
+        assert!(accepted, "bench files are good");
+        elapsed.as_secs_f64() * 1e6
+    }
+
+    fn median(mut times: Vec<f64>) -> f64 {
+        times.sort_by(f64::total_cmp);
+        times[times.len() / 2]
+    }
+}

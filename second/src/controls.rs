@@ -1,0 +1,72 @@
+//! Types 8 and 9: sums, and the controls that must repeat them.
+
+use crate::fields::{field, number};
+use crate::individual::Individual;
+use crate::refusal::{require, FORMAT};
+
+/// Control totals keep their last ten digits.
+const TEN_DIGITS: u64 = 10_000_000_000;
+
+/// 10,000 records of ten-digit amounts stay far below 64 bits, so sums are exact.
+#[derive(Clone, Copy, Default)]
+pub struct Sums {
+    /// Number of types 6 and 7.
+    entries: u64,
+    destinations: u64,
+    debits: u64,
+    credits: u64,
+}
+
+impl Sums {
+    pub fn add_individual(&mut self, individual: &Individual) {
+        self.entries += 1;
+        self.destinations += individual.destination;
+        if individual.code.is_debit() {
+            self.debits += individual.amount;
+        } else {
+            self.credits += individual.amount;
+        }
+    }
+
+    pub fn add_additional(&mut self) {
+        self.entries += 1;
+    }
+
+    pub fn add_batch(&mut self, batch: &Sums) {
+        self.entries += batch.entries;
+        self.destinations += batch.destinations;
+        self.debits += batch.debits;
+        self.credits += batch.credits;
+    }
+}
+
+pub fn check_batch_control(header: &[u8], sums: &Sums, record: &[u8]) -> Result<(), u16> {
+    let repeats = field(record, 2, 4) == field(header, 2, 4)
+        && field(record, 45, 54) == field(header, 41, 50)
+        && field(record, 80, 94) == field(header, 80, 94);
+    let agrees = holds(record, 5, 10, sums.entries)
+        && holds(record, 11, 20, sums.destinations % TEN_DIGITS)
+        && holds(record, 21, 32, sums.debits)
+        && holds(record, 33, 44, sums.credits);
+    require(repeats && agrees, FORMAT)
+}
+
+pub fn check_file_control(
+    batches: u64,
+    records: u64,
+    sums: &Sums,
+    record: &[u8],
+) -> Result<(), u16> {
+    let agrees = holds(record, 2, 7, batches)
+        && holds(record, 8, 13, records.div_ceil(10))
+        && holds(record, 14, 21, sums.entries)
+        && holds(record, 22, 31, sums.destinations % TEN_DIGITS)
+        && holds(record, 32, 43, sums.debits)
+        && holds(record, 44, 55, sums.credits);
+    require(agrees, FORMAT)
+}
+
+/// A sum with more digits than the field matches nothing that can stand in it.
+fn holds(record: &[u8], from: usize, to: usize, value: u64) -> bool {
+    number(field(record, from, to)) == Some(value)
+}

@@ -1,0 +1,79 @@
+//! Good and damaged files, each made from a seed and its number alone.
+
+mod damage;
+mod draft;
+mod faults;
+pub mod good;
+mod large;
+mod lengths;
+pub mod random;
+mod session;
+mod structure;
+mod sums;
+
+use crate::{Refusal, Rules};
+pub use draft::Draft;
+use random::Random;
+
+/// The answer that was meant, where it is known.
+pub type Answer = Option<Result<usize, Refusal>>;
+
+pub struct Case {
+    pub family: &'static str,
+    pub rules: Rules,
+    pub file: Vec<u8>,
+    pub expected: Answer,
+}
+
+impl Case {
+    fn of(family: &'static str, draft: &Draft, expected: Answer) -> Self {
+        Case::with(family, draft.rules.clone(), draft.bytes(), expected)
+    }
+
+    fn with(family: &'static str, rules: Rules, file: Vec<u8>, expected: Answer) -> Self {
+        Case {
+            family,
+            rules,
+            file,
+            expected,
+        }
+    }
+}
+
+fn refused(number: u16, place: usize) -> Answer {
+    Some(Err(Refusal { number, place }))
+}
+
+/// The large files come first; after them each twenty files hold all families.
+pub fn generate(seed: u64, number: u64) -> Case {
+    let mut random = Random::new(seed, number);
+    let Some(number) = number.checked_sub(large::LARGE) else {
+        return large::large_file(&mut random, number);
+    };
+    let (round, family) = (number / 20, number % 20);
+    match family {
+        0..=3 => good_file(&mut random),
+        4..=8 => damage::one_fault(&mut random),
+        9 | 10 => damage::two_faults_in_one_record(&mut random),
+        11 | 12 => damage::two_faults_in_two_records(&mut random),
+        13 | 14 => flip(seed, round * 2 + family - 13),
+        15 | 16 => structure::damaged_structure(&mut random),
+        17 => session::damaged_rules(&mut random),
+        18 => lengths::damaged_length(&mut random),
+        // Files of more than a hundred records are rare, so that the rest goes quickly.
+        _ if random.once_in(10) => sums::amount_sums(&mut random),
+        _ => damage::one_fault(&mut random),
+    }
+}
+
+fn good_file(random: &mut Random) -> Case {
+    let draft = good::any_file(random);
+    Case::of("good", &draft, Some(Ok(draft.records.len())))
+}
+
+/// 256 flips in a row share their file and their position.
+fn flip(seed: u64, number: u64) -> Case {
+    const FLIPS: u64 = 1 << 63;
+    let mut random = Random::new(seed, FLIPS + number / 256);
+    lengths::flipped(&mut random, (number % 256) as u8)
+}

@@ -1,0 +1,351 @@
+//! Faults of the table, applied to a draft: one, or two for the order of checks.
+
+use super::draft::{get_number, put, put_number, Draft};
+use super::faults::{Check, Kind, Way, NO_DATES};
+use super::good::{any_date, file_with_batches};
+use super::random::{Random, CHARACTERS};
+use super::{refused, Case};
+use crate::Currency;
+
+/// A fault chosen from the table for one record of a draft.
+#[derive(Clone, Copy)]
+struct Fault {
+    kind: Kind,
+    /// Index of the check: the order in which the record is judged.
+    rank: usize,
+    way: Way,
+    place: usize,
+}
+
+impl Fault {
+    fn check(&self) -> &'static Check {
+        &self.kind.checks()[self.rank]
+    }
+
+    fn refusal(&self) -> Option<Result<usize, crate::Refusal>> {
+        refused(self.check().number, self.place)
+    }
+
+    /// Fields of one record whose faults could hide each other.
+    fn meets(&self, other: &Fault) -> bool {
+        let (mine, its) = (self.check(), other.check());
+        // Code, information and flag are judged together.
+        let entwined = |check: &Check| matches!(check.from, 2 | 77 | 79);
+        let overlap = mine.from <= its.to && its.from <= mine.to;
+        overlap || (self.kind == Kind::Individual && entwined(mine) && entwined(its))
+    }
+}
+
+pub fn one_fault(random: &mut Random) -> Case {
+    let mut draft = file_with_batches(random);
+    let fault = any_fault(random, &draft);
+    apply_all(random, &mut draft, &[fault]);
+    drop_unflagged_additional(random, &mut draft, fault.place);
+    Case::of("one fault", &draft, fault.refusal())
+}
+
+pub fn two_faults_in_one_record(random: &mut Random) -> Case {
+    let mut draft = file_with_batches(random);
+    let first = any_fault(random, &draft);
+    let rank = random.below(first.kind.checks().len());
+    let way = *random.pick(first.kind.checks()[rank].ways);
+    let second = Fault { rank, way, ..first };
+    apply_all(random, &mut draft, &[first, second]);
+    let earlier = if first.rank < second.rank {
+        first
+    } else {
+        second
+    };
+    let spoiled = |byte| !CHARACTERS.contains(byte);
+    let expected = if draft.records[first.place].iter().any(spoiled) {
+        // A bad character comes before all else, wherever it stands.
+        refused(17, first.place)
+    } else if first.meets(&second) {
+        None
+    } else {
+        earlier.refusal()
+    };
+    Case::of("two faults in one record", &draft, expected)
+}
+
+pub fn two_faults_in_two_records(random: &mut Random) -> Case {
+    let mut draft = file_with_batches(random);
+    let first = any_fault(random, &draft);
+    let second = any_fault(random, &draft);
+    apply_all(random, &mut draft, &[first, second]);
+    let expected = match first.place.cmp(&second.place) {
+        std::cmp::Ordering::Less => first.refusal(),
+        std::cmp::Ordering::Greater => second.refusal(),
+        std::cmp::Ordering::Equal => None,
+    };
+    Case::of("two faults in two records", &draft, expected)
+}
+
+/// All rows alike half of the time, otherwise all numbers alike.
+fn any_fault(random: &mut Random, draft: &Draft) -> Fault {
+    const NUMBERS: [u16; 11] = [17, 19, 25, 27, 75, 77, 78, 79, 87, 203, 204];
+    let number = random.once_in(2).then(|| *random.pick(&NUMBERS));
+    loop {
+        let kind = *random.pick(&Kind::ALL);
+        let rank = random.below(kind.checks().len());
+        let check = &kind.checks()[rank];
+        let places = draft.places(|record| kind.is(record));
+        if places.is_empty() || number.is_some_and(|number| number != check.number) {
+            // A file without additionals cannot have all faults: draw again.
+            continue;
+        }
+        let (way, place) = (*random.pick(check.ways), *random.pick(&places));
+        return Fault {
+            kind,
+            rank,
+            way,
+            place,
+        };
+    }
+}
+
+/// Controls are damaged last, so that computing them anew repairs no fault.
+fn apply_all(random: &mut Random, draft: &mut Draft, faults: &[Fault]) {
+    for fault in faults.iter().filter(|fault| !fault.kind.is_control()) {
+        apply(random, draft, fault);
+    }
+    if !random.once_in(4) {
+        draft.settle();
+    }
+    for fault in faults.iter().filter(|fault| fault.kind.is_control()) {
+        apply(random, draft, fault);
+    }
+}
+
+/// A flag wrongly 0 also comes without its additional.
+fn drop_unflagged_additional(random: &mut Random, draft: &mut Draft, place: usize) {
+    let unflagged = draft.records[place][0] == b'6' && draft.records[place][78] == b'0';
+    let followed = draft
+        .records
+        .get(place + 1)
+        .is_some_and(|next| next[0] == b'7');
+    if unflagged && followed && random.once_in(2) {
+        draft.records.remove(place + 1);
+        draft.settle();
+    }
+}
+
+fn apply(random: &mut Random, draft: &mut Draft, fault: &Fault) {
+    let Check { from, to, .. } = *fault.check();
+    match fault.way {
+        Way::OtherCurrency => turn_currency(draft, fault.place, from),
+        Way::Absent => name_absent(random, draft, fault.place, from),
+        Way::OtherAbsent => {
+            name_absent(random, draft, fault.place, from);
+            turn_currency(draft, fault.place, from);
+        }
+        Way::OtherDate | Way::SharedNoDate => change_date(random, draft, fault),
+        Way::WrongInformation | Way::FlagMissing => entangle(random, draft, fault),
+        Way::CounterEqual | Way::CounterFalling | Way::CounterZero => {
+            turn_back_counter(random, draft, fault)
+        }
+        Way::OneMore | Way::OneLess => count_otherwise(draft, fault),
+        Way::BlocksRoundedDown => round_blocks_down(draft, fault.place),
+        way => spoil_field(random, &mut draft.records[fault.place][from - 1..to], way),
+    }
+}
+
+/// The ways that need nothing but the field itself.
+fn spoil_field(random: &mut Random, field: &mut [u8], way: Way) {
+    let index = random.position(1, field.len()) - 1;
+    let old = field[index];
+    match way {
+        Way::Bad => field[index] = bad_byte(random),
+        Way::Other => field[index] = random.character_with(|byte| byte != old),
+        Way::OtherDigit => {
+            field[index] = random.character_with(|byte| byte.is_ascii_digit() && byte != old)
+        }
+        Way::NotDigit => field[index] = random.character_with(|byte| !byte.is_ascii_digit()),
+        Way::OneBlank => field[index] = b' ',
+        Way::Blanks => field.fill(b' '),
+        Way::Texts(texts) => {
+            let text = *random.pick(texts);
+            field[..text.len()].copy_from_slice(text);
+        }
+        Way::LeadingDigit => field[0] = if field[0] == b'9' { b'8' } else { field[0] + 1 },
+        Way::BlankPadded => {
+            let zeros = field.iter().take_while(|&&byte| byte == b'0').count();
+            field[..zeros.max(1)].fill(b' ');
+        }
+        _ => unreachable!("{way:?} needs more than the field"),
+    }
+}
+
+/// The seven exceptions and the neighbours of the range often, all others too.
+pub fn bad_byte(random: &mut Random) -> u8 {
+    loop {
+        let any = random.byte();
+        let byte = *random.pick(&[
+            34, 38, 39, 91, 92, 93, 94, 96, 31, 0, 10, 127, 255, any, any, any,
+        ]);
+        if !CHARACTERS.contains(&byte) {
+            return byte;
+        }
+    }
+}
+
+fn turn_currency(draft: &mut Draft, place: usize, from: usize) {
+    let record = &mut draft.records[place];
+    let entity = get_number(record, from, from + 3);
+    let other = if entity > 500 {
+        entity - 500
+    } else {
+        entity + 500
+    };
+    put_number(record, from, from + 3, other);
+}
+
+/// Strikes an entity that no record of the file names, and names it.
+fn name_absent(random: &mut Random, draft: &mut Draft, place: usize, from: usize) {
+    let absent = loop {
+        let entity = random.between(1, 499);
+        if first_use(draft, entity).is_none() {
+            break entity;
+        }
+    };
+    draft.rules.roster[absent] = false;
+    let added = if draft.rules.currency == Currency::Dollars {
+        500
+    } else {
+        0
+    };
+    put_number(
+        &mut draft.records[place],
+        from,
+        from + 3,
+        (absent + added) as u64,
+    );
+}
+
+/// The first place of a record that names the entity, in whichever currency.
+pub fn first_use(draft: &Draft, entity: usize) -> Option<usize> {
+    draft.records.iter().position(|record| {
+        let from = match record[0] {
+            b'1' => 15,
+            b'5' => 80,
+            b'6' => 4,
+            _ => return false,
+        };
+        let named = get_number(record, from, from + 3) as usize;
+        named == entity || named == entity + 500
+    })
+}
+
+fn change_date(random: &mut Random, draft: &mut Draft, fault: &Fault) {
+    let header = &mut draft.records[fault.place];
+    if let Way::SharedNoDate = fault.way {
+        let date: &[u8] = random.pick::<&[u8]>(NO_DATES);
+        put(header, 24, date);
+        draft.rules.date = get_number(header, 24, 29) as u32;
+        return;
+    }
+    let other = loop {
+        let date = any_date(random);
+        if date != draft.rules.date {
+            break date;
+        }
+    };
+    put_number(header, 24, 29, u64::from(other));
+}
+
+/// Code, information and flag that are good alone but not together.
+fn entangle(random: &mut Random, draft: &mut Draft, fault: &Fault) {
+    let record = &mut draft.records[fault.place];
+    if let Way::WrongInformation = fault.way {
+        put(record, 2, *random.pick(&[b"32", b"31"]));
+        put(record, 77, b"01");
+        return;
+    }
+    if record[78] == b'0' {
+        let (code, information) = *random.pick(&[
+            (b"37", b"01"),
+            (b"36", b"00"),
+            (b"36", b"01"),
+            (b"32", b"00"),
+            (b"31", b"00"),
+        ]);
+        put(record, 2, code);
+        put(record, 77, information);
+    } else if &record[1..3] == b"37" && &record[76..78] == b"00" {
+        put(record, 77, b"01");
+    }
+    put(record, 79, b"0");
+}
+
+fn turn_back_counter(random: &mut Random, draft: &mut Draft, fault: &Fault) {
+    let before = draft.last_before(fault.place, b'6');
+    let last = before.map_or(0, |place| get_number(&draft.records[place], 88, 94));
+    let sequence = match fault.way {
+        Way::CounterEqual => last,
+        Way::CounterFalling => random.below(last as usize + 1) as u64,
+        _ => 0,
+    };
+    put_number(&mut draft.records[fault.place], 88, 94, sequence);
+}
+
+/// One more or one less, going round at the ends of the field.
+fn count_otherwise(draft: &mut Draft, fault: &Fault) {
+    let Check { from, to, .. } = *fault.check();
+    let record = &mut draft.records[fault.place];
+    let limit = 10u64.pow((to - from + 1) as u32);
+    let step = if let Way::OneMore = fault.way {
+        1
+    } else {
+        limit - 1
+    };
+    let value = get_number(record, from, to);
+    put_number(record, from, to, (value + step) % limit);
+}
+
+/// Rounded down, or one too many where nothing is to be rounded.
+fn round_blocks_down(draft: &mut Draft, place: usize) {
+    let records = place + 1;
+    let blocks = if records.is_multiple_of(10) {
+        records / 10 + 1
+    } else {
+        records / 10
+    };
+    put_number(&mut draft.records[place], 8, 13, blocks as u64);
+}
+
+#[cfg(test)]
+mod tests {
+    use super::*;
+    use crate::read;
+
+    /// Each way of each check of each kind, at every record of that kind.
+    #[test]
+    fn each_fault_of_the_table_gets_its_number() {
+        let mut random = Random::new(1, 1);
+        for kind in Kind::ALL {
+            for (rank, check) in kind.checks().iter().enumerate() {
+                for &way in check.ways {
+                    for _ in 0..40 {
+                        try_everywhere(&mut random, kind, rank, way);
+                    }
+                }
+            }
+        }
+    }
+
+    fn try_everywhere(random: &mut Random, kind: Kind, rank: usize, way: Way) {
+        let good = file_with_batches(random);
+        for place in good.places(|record| kind.is(record)) {
+            let fault = Fault {
+                kind,
+                rank,
+                way,
+                place,
+            };
+            let mut draft = good.clone();
+            apply_all(random, &mut draft, &[fault]);
+            let answer = Some(read(&draft.rules, &draft.bytes()));
+            assert_eq!(answer, fault.refusal(), "{kind:?}, check {rank}, {way:?}");
+        }
+    }
+}

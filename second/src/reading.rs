@@ -1,0 +1,126 @@
+//! The reading: the length, then each record in order; the first fault is the answer.
+
+use crate::controls::{check_batch_control, check_file_control, Sums};
+use crate::fields::is_character;
+use crate::headers::{check_batch_header, check_file_header, sender};
+use crate::individual::{has_additional, Individual};
+use crate::refusal::{require, Refusal, ADDITIONAL, FORMAT, LENGTH};
+use crate::rules::Rules;
+
+pub const RECORD: usize = 94;
+const SHORTEST: usize = 2 * RECORD;
+const LONGEST: usize = 10_000 * RECORD;
+
+/// The number of records of a good file.
+pub fn read(rules: &Rules, file: &[u8]) -> Result<usize, Refusal> {
+    if !(SHORTEST..=LONGEST).contains(&file.len()) || !file.len().is_multiple_of(RECORD) {
+        return Err(Refusal {
+            number: LENGTH,
+            place: 0,
+        });
+    }
+    let mut reading = Reading::new(rules);
+    for (place, record) in file.chunks_exact(RECORD).enumerate() {
+        reading
+            .take(record)
+            .map_err(|number| Refusal { number, place })?;
+    }
+    reading.end().map_err(|number| Refusal {
+        number,
+        place: reading.records,
+    })?;
+    Ok(reading.records)
+}
+
+/// What of the records read so far is needed for those to come.
+struct Reading<'a> {
+    rules: &'a Rules,
+    previous: Option<&'a [u8]>,
+    records: usize,
+    batches: u64,
+    /// The last batch header; empty before the first batch.
+    header: &'a [u8],
+    individual: Option<Individual<'a>>,
+    batch: Sums,
+    file: Sums,
+}
+
+impl<'a> Reading<'a> {
+    fn new(rules: &'a Rules) -> Self {
+        Reading {
+            rules,
+            previous: None,
+            records: 0,
+            batches: 0,
+            header: &[],
+            individual: None,
+            batch: Sums::default(),
+            file: Sums::default(),
+        }
+    }
+
+    fn take(&mut self, record: &'a [u8]) -> Result<(), u16> {
+        require(record.iter().all(|&byte| is_character(byte)), FORMAT)?;
+        check_order(self.previous, record[0])?;
+        self.records += 1;
+        match record[0] {
+            b'1' => check_file_header(self.rules, record)?,
+            b'5' => self.open_batch(record)?,
+            b'6' => self.take_individual(record)?,
+            b'7' => self.take_additional(record)?,
+            b'8' => self.close_batch(record)?,
+            _ => check_file_control(self.batches, self.records as u64, &self.file, record)?,
+        }
+        self.previous = Some(record);
+        Ok(())
+    }
+
+    fn open_batch(&mut self, record: &'a [u8]) -> Result<(), u16> {
+        check_batch_header(self.rules, record)?;
+        self.header = record;
+        self.batch = Sums::default();
+        Ok(())
+    }
+
+    fn take_individual(&mut self, record: &'a [u8]) -> Result<(), u16> {
+        // The sequence runs on through the file's batches; the first exceeds 0.
+        let last = self.individual.map_or(0, |individual| individual.sequence);
+        let individual = Individual::check(self.rules, sender(self.header), last, record)?;
+        self.batch.add_individual(&individual);
+        self.individual = Some(individual);
+        Ok(())
+    }
+
+    fn take_additional(&mut self, record: &[u8]) -> Result<(), u16> {
+        let individual = self.individual.as_ref().ok_or(ADDITIONAL)?;
+        individual.check_additional(record)?;
+        self.batch.add_additional();
+        Ok(())
+    }
+
+    fn close_batch(&mut self, record: &[u8]) -> Result<(), u16> {
+        check_batch_control(self.header, &self.batch, record)?;
+        self.file.add_batch(&self.batch);
+        self.batches += 1;
+        Ok(())
+    }
+
+    fn end(&self) -> Result<(), u16> {
+        let complete = self.previous.is_some_and(|record| record[0] == b'9');
+        require(complete, FORMAT)
+    }
+}
+
+/// Whether a record of this kind may follow the one before it.
+fn check_order(previous: Option<&[u8]>, kind: u8) -> Result<(), u16> {
+    let Some(previous) = previous else {
+        return require(kind == b'1', FORMAT);
+    };
+    match (previous[0], kind) {
+        (b'1' | b'8', b'5' | b'9') | (b'5', b'6') => Ok(()),
+        (b'6', _) if has_additional(previous) => require(kind == b'7', ADDITIONAL),
+        (b'6' | b'7', b'6' | b'8') => Ok(()),
+        (b'6' | b'7', b'7') => Err(ADDITIONAL),
+        _ => Err(FORMAT),
+    }
+}

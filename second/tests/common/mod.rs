@@ -1,0 +1,114 @@
+//! Small files written by hand, position by position.
+
+use second::{read, Currency, Refusal, Rules};
+
+pub type Record = [u8; 94];
+
+/// A record from its texts, each with the position where it begins.
+pub fn record(texts: &[(usize, &str)]) -> Record {
+    let mut record = [b' '; 94];
+    for (from, text) in texts {
+        record[from - 1..from - 1 + text.len()].copy_from_slice(text.as_bytes());
+    }
+    record
+}
+
+pub fn rules(currency: Currency) -> Rules {
+    Rules {
+        date: 240_229,
+        currency,
+        roster: [true; 500],
+    }
+}
+
+pub fn header(origin: &str) -> Record {
+    record(&[
+        (1, "101 000000010 "),
+        (15, origin),
+        (23, "0240229"),
+        (34, "A094101"),
+    ])
+}
+
+pub fn batch_header(sender: &str, number: &str) -> Record {
+    record(&[
+        (1, "5200ACME"),
+        (41, "3012345678PPDSEGURO"),
+        (70, "240301"),
+        (79, "9"),
+        (80, sender),
+        (88, number),
+    ])
+}
+
+/// `information` is 77-79: transaction and flag.
+pub fn individual(
+    code: &str,
+    destination: &str,
+    amount: &str,
+    information: &str,
+    counter: &str,
+) -> Record {
+    record(&[
+        (1, "6"),
+        (2, code),
+        (4, destination),
+        (12, "000000000000000000"),
+        (30, amount),
+        (40, "FACTURA 1"),
+        (55, "CLIENTE 1"),
+        (77, information),
+        (80, counter),
+    ])
+}
+
+/// `sums` is 5-44: entries, control total, debits, credits.
+pub fn batch_control(sums: &str, sender: &str, number: &str) -> Record {
+    record(&[
+        (1, "8200"),
+        (5, sums),
+        (45, "3012345678"),
+        (80, sender),
+        (88, number),
+    ])
+}
+
+pub fn file_control(sums: &str) -> Record {
+    record(&[(1, "9"), (2, sums)])
+}
+
+/// Case L of the listing.
+pub fn listing() -> Vec<Record> {
+    vec![
+        header("04010001"),
+        batch_header("04010001", "0000001"),
+        individual("37", "04020001", "0000012500", "000", "040100010000001"),
+        individual("37", "04030002", "0000040000", "000", "040100010000002"),
+        batch_control(
+            "0000020008050003000000052500000000000000",
+            "04010001",
+            "0000001",
+        ),
+        batch_header("04030002", "0000002"),
+        individual("32", "04010001", "0000007500", "001", "040300020000003"),
+        record(&[(1, "705"), (84, "0001"), (88, "0000003")]),
+        batch_control(
+            "0000020004010001000000000000000000007500",
+            "04030002",
+            "0000002",
+        ),
+        file_control("000002000001000000040012060004000000052500000000007500"),
+    ]
+}
+
+pub fn answer(rules: &Rules, records: &[Record]) -> Result<usize, Refusal> {
+    read(rules, &records.concat())
+}
+
+pub fn refused(number: u16, place: usize) -> Result<usize, Refusal> {
+    Err(Refusal { number, place })
+}
+
+pub fn put(record: &mut Record, from: usize, text: &str) {
+    record[from - 1..from - 1 + text.len()].copy_from_slice(text.as_bytes());
+}
