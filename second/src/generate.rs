@@ -44,22 +44,22 @@ fn refused(number: u16, place: usize) -> Answer {
     Some(Err(Refusal { number, place }))
 }
 
-/// The large files come first; after them each twenty files hold all families.
+/// The large files come first; after them each twenty-four files hold all families.
 pub fn generate(seed: u64, number: u64) -> Case {
     let mut random = Random::new(seed, number);
     let Some(number) = number.checked_sub(large::LARGE) else {
         return large::large_file(&mut random, number);
     };
-    let (round, family) = (number / 20, number % 20);
+    let (round, family) = (number / 24, number % 24);
     match family {
         0..=3 => good_file(&mut random),
         4..=8 => damage::one_fault(&mut random),
         9 | 10 => damage::two_faults_in_one_record(&mut random),
         11 | 12 => damage::two_faults_in_two_records(&mut random),
-        13 | 14 => flip(seed, round * 2 + family - 13),
-        15 | 16 => structure::damaged_structure(&mut random),
-        17 => session::damaged_rules(&mut random),
-        18 => lengths::damaged_length(&mut random),
+        13..=18 => flip(seed, round * 6 + family - 13),
+        19 | 20 => structure::damaged_structure(&mut random),
+        21 => session::damaged_rules(&mut random),
+        22 => lengths::damaged_length(&mut random),
         // Files of more than a hundred records are rare, so that the rest goes quickly.
         _ if random.once_in(10) => sums::amount_sums(&mut random),
         _ => damage::one_fault(&mut random),
@@ -71,9 +71,10 @@ fn good_file(random: &mut Random) -> Case {
     Case::of("good", &draft, Some(Ok(draft.records.len())))
 }
 
-/// 256 flips in a row share their file and their position.
+/// 256 flips in a row share their file and their byte. Every position of every kind of record comes once in 658 such runs.
 fn flip(seed: u64, number: u64) -> Case {
     const FLIPS: u64 = 1 << 63;
-    let mut random = Random::new(seed, FLIPS + number / 256);
-    lengths::flipped(&mut random, (number % 256) as u8)
+    let (run, value) = (number / 256, number % 256);
+    let mut random = Random::new(seed, FLIPS + run);
+    lengths::flipped(&mut random, run as usize, value as u8)
 }

@@ -10,10 +10,7 @@ pub fn check_file_header(rules: &Rules, record: &[u8]) -> Result<(), u16> {
     require(all_digits(destination), FORMAT)?;
     let origin = framed(field(record, 14, 23)).ok_or(FORMAT)?;
     let origin = entity(origin).ok_or(FORMAT)?;
-    require(
-        date(field(record, 24, 29)) == Some(u64::from(rules.date)),
-        DATE,
-    )?;
+    require(date(field(record, 24, 29)) == Some(rules.date), DATE)?;
     require(is_time(field(record, 30, 33)), FORMAT)?;
     require(matches!(record[33], b'0'..=b'9' | b'A'..=b'Z'), FORMAT)?;
     require(field(record, 35, 40) == b"094101", FORMAT)?;

@@ -18,10 +18,9 @@ unsafe extern "C" {
 }
 
 pub fn read(rules: &Rules, file: &[u8]) -> Result<usize, Refusal> {
-    let date = u64::from(rules.date);
     let dollars = rules.currency == Currency::Dollars;
     // SAFETY: the library only reads what it is lent, for the time of the call.
-    let said = unsafe { shaydhoqel_read(date, dollars, &rules.roster, file) };
+    let said = unsafe { shaydhoqel_read(rules.date, dollars, &rules.roster, file) };
     // Answers beyond all numbers stay visible as a difference instead of a panic.
     let place = usize::try_from(said.place).unwrap_or(usize::MAX);
     match said.number {

@@ -12,7 +12,7 @@ pub enum Currency {
 #[derive(Clone)]
 pub struct Rules {
     /// AAMMDD, as the number those digits spell.
-    pub date: u32,
+    pub date: u64,
     pub currency: Currency,
     /// `roster[e]` says whether entity `e` is on it.
     pub roster: [bool; 500],

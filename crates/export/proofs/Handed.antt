@@ -1,6 +1,6 @@
 -- What the reading's answer comes to at the boundary.
 use Prim.Native.Nat.{ℕ}
-use mathlib.Core.Path.{_≡_, sym, ap}
+use mathlib.Core.Path.{_≡_, ap}
 use Rattle.paper.specs.declared.answer.Fault.{Fault}
 use Rattle.paper.specs.Answers.{numberOf}
 use Rattle.reading.specs.declared.Reading.{Reading}

@@ -1,9 +1,8 @@
 // The library for programs in Rust and C: functions on numbers and byte slices.
 ghost use mathlib.Core.Path.{_≡_};
-ghost use Rattle.paper.specs.Reading.{reading};
 ghost use Prim.Native.Nat.{ℕ, _/_};
 ghost use lib.ListN.{length};
-ghost use Rattle.paper.specs.declared.rules.Rules.{Rules};
+ghost use Rattle.paper.specs.Reading.{reading};
 ghost use Rattle.reading.specs.Said.{said, Carries};
 ghost use Rattle.export.specs.Spoken.{spokenOf, currencyOf};
 use paper::rules::Currency;
@@ -41,7 +40,7 @@ fn speak(answer: Reading) -> Spoken
     }
 }
 
-// A file read in a session of this date, currency and roster.
+// A file read in a session of this date, currency and roster. The caller lends 500 marks, each 0 or 1, and the file with its length.
 #[no_mangle]
 pub extern "C" fn shaydhoqel_read(
     date: u64,

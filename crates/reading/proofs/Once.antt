@@ -1,7 +1,6 @@
 -- What a reading says, and the number of records, fix the answer.
 use Prim.Native.Nat.{ℕ}
-use mathlib.Core.Path.{_≡_, refl, sym, ap, ap₂, _∙_}
-use Rattle.paper.specs.declared.answer.Fault.{Fault}
+use mathlib.Core.Path.{_≡_, sym, ap, ap₂, _∙_}
 use Rattle.paper.specs.Answers.{numberOf}
 use Rattle.paper.proofs.Numbers.{own-number}
 use Rattle.reading.specs.declared.Reading.{Reading}

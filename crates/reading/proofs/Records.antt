@@ -1,8 +1,8 @@
 -- One record: what its characters and its type's place say of the whole.
 use Prim.Native.Nat.{ℕ, zero, suc, _*_, _<_}
-use mathlib.Core.Bool.{Bool, true, false, _&&_}
+use mathlib.Core.Bool.{Bool, true, false}
 use mathlib.Core.List.{List, [], _∷_}
-use mathlib.Core.Path.{_≡_, refl, sym, _∙_}
+use mathlib.Core.Path.{_≡_}
 use lib.Dec.{T}
 use lib.ListN.{take, drop}
 use Rattle.paper.specs.declared.record.Before.{Before}
@@ -13,38 +13,33 @@ use Rattle.paper.specs.declared.rules.Rules.{Rules}
 use Rattle.paper.specs.Checks.{Check, fine, wrong, need, _also_}
 use Rattle.paper.specs.Fields.{every, good}
 use Rattle.paper.specs.Kinds.{kindOf, allowed}
-use Rattle.paper.specs.Reading.{judged, next}
+use Rattle.paper.specs.Reading.{judged}
+use Rattle.paper.proofs.Tests.{and-l, and-r, T-of, of-T}
 use Rattle.paper.proofs.Accepted.{wrong-not-fine, Follows, file-begins, batch-opens, file-ends, first-individual, its-additional, next-individual, batch-closes}
 use Rattle.state.specs.declared.State.{State}
-use Rattle.state.specs.States.{recordAt, meant, Outcome, stops, outcome, stepped, Standing}
+use Rattle.state.specs.States.{recordAt, meant, stops, outcome, stepped, Standing}
+use Rattle.reading.specs.Taken.{taken}
 
 -- ---- characters
 
-and-first : (a b : Bool) → a && b ≡ true → a ≡ true
-and-first true b h = refl
-and-first false b h = h
-
-and-second : (a b : Bool) → a && b ≡ true → b ≡ true
-and-second true b h = h
-and-second false b h = cc
-
 module _ (test : ℕ → Bool) where
-  every-drop : (n : ℕ) (l : List ℕ) → every test l ≡ true → every test (drop n l) ≡ true
+  every-drop : (n : ℕ) (l : List ℕ) → T (every test l) → T (every test (drop n l))
   unfolding every
   every-drop zero l h = h
   every-drop (suc n) [] h = h
-  every-drop (suc n) (b ∷ l) h = every-drop n l (and-second (test b) (every test l) h)
+  every-drop (suc n) (b ∷ l) h = every-drop n l (and-r (test b) (every test l) h)
 
-  every-take : (n : ℕ) (l : List ℕ) → every test l ≡ true → every test (take n l) ≡ true
+  every-take : (n : ℕ) (l : List ℕ) → T (every test l) → T (every test (take n l))
   unfolding every
-  every-take zero l h = refl
+  every-take zero l h = tt
   every-take (suc n) [] h = h
-  every-take (suc n) (b ∷ l) h = rw (and-first (test b) (every test l) h) (every-take n l (and-second (test b) (every test l) h))
+  every-take (suc n) (b ∷ l) h = rw (of-T (test b) (and-l (test b) (every test l) h)) (every-take n l (and-r (test b) (every test l) h))
 
 -- where the whole file is good, each record is
 pub clean-record : (file : List ℕ) (place : ℕ) → every good file ≡ true → every good (recordAt file place) ≡ true
 unfolding recordAt
-clean-record file place h = every-take good 94 (drop (place * 94) file) (every-drop good (place * 94) file h)
+clean-record file place h =
+    of-T (every good (take 94 (drop (place * 94) file))) (every-take good 94 (drop (place * 94) file) (every-drop good (place * 94) file (T-of h)))
 
 -- ---- order
 
@@ -85,13 +80,10 @@ abbrev pub first : List ℕ → ℕ → State → Check
 first file place st = need (every good (recordAt file place)) 17 also allowed (st .before) (kindOf (recordAt file place))
 
 module _ (rules : Rules) (file : List ℕ) (place : ℕ) (st : State) where
-  abbrev whole : Outcome
-  whole = outcome (judged rules (meant file place st) (recordAt file place)) (next (meant file place st) (recordAt file place))
-
-  pub stands : first file place st ≡ fine → stepped rules file place st ≡ whole
+  pub stands : first file place st ≡ fine → stepped rules file place st ≡ taken rules file place st
   unfolding stepped judged meant _also_
   stands h = rw h
 
-  pub falls : {n : ℕ} → first file place st ≡ wrong n → stops n ≡ whole
+  pub falls : {n : ℕ} → first file place st ≡ wrong n → stops n ≡ taken rules file place st
   unfolding outcome judged meant _also_
   falls h = rw h

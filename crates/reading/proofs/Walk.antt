@@ -1,15 +1,15 @@
 -- The reading, one record further.
-use Prim.Native.Nat.{ℕ, zero, suc, _+_, _*_, _/_, _%_, _≤_, _<_}
-use mathlib.Core.Bool.{Bool, true, false, _&&_}
-use mathlib.Core.List.{List, [], _∷_}
-use mathlib.Core.Path.{_≡_, refl, sym, ap, _∙_}
+use Prim.Native.Nat.{ℕ, suc, _+_, _*_, _/_, _%_, _≤_, _<_}
+use mathlib.Core.Bool.{true, false}
+use mathlib.Core.List.{List, []}
+use mathlib.Core.Path.{_≡_, refl, sym, ap}
 use native.Mathlib.Omega.{arith}
 use lib.Dec.{eqb}
-use lib.ListN.{length, take, drop}
+use lib.ListN.{length, take, drop, drop-of-length-le}
 use Rattle.paper.specs.declared.record.Before.the-variants.{Nothing}
 use Rattle.paper.specs.Fields.{within}
 use Rattle.paper.specs.declared.rules.Rules.{Rules}
-use Rattle.paper.specs.Answers.{Said, accepted, refused, andThen, require}
+use Rattle.paper.specs.Answers.{Said, refused, andThen, require}
 use Rattle.paper.specs.Checks.{Check, fine, wrong}
 use Rattle.paper.specs.Controls.{zeros}
 use Rattle.paper.specs.Reading as paper
@@ -17,7 +17,7 @@ use Rattle.paper.specs.Reading.{nothingCounted, start, judged, next, finish, at
 use Rattle.paper.proofs.Tests.{T-of, within-range, and-l}
 use Rattle.paper.proofs.Places.{parts-from, length-parts}
 use Rattle.state.specs.declared.State.{State}
-use Rattle.state.specs.States.{recordAt, meant, Outcome, goes, stops, outcome}
+use Rattle.state.specs.States.{recordAt, meant, goes, stops, outcome}
 
 -- ---- outcomes
 
@@ -35,12 +35,6 @@ stopped fine s h = absurd (stop-not-go (sym h))
 stopped (wrong m) s {n} h = let e : m ≡ n = cc in ap wrong e
 
 -- ---- records from a place on
-
-drop-past : {A : Type 0} (n : ℕ) (l : List A) → length l ≤ n → drop n l ≡ []
-drop-past zero [] h = refl
-drop-past zero (x ∷ l) h = absurd (omega arith)
-drop-past (suc n) [] h = refl
-drop-past (suc n) (x ∷ l) h = drop-past n l (omega arith)
 
 module _ (rules : Rules) (file : List ℕ) (n i : ℕ) (s : paper.State) where
   pub go-on : {t : paper.State} → i < n → outcome (judged rules s (recordAt file i)) (next s (recordAt file i)) ≡ goes t
@@ -61,14 +55,14 @@ module _ (rules : Rules) (file : List ℕ) (n i : ℕ) (s : paper.State) where
 
   pub done : n ≤ i → readingFrom rules s (drop i (parts 94 n file)) ≡ finish (s .before) (s .counts .place)
   unfolding readingFrom
-  done h = rw (drop-past i (parts 94 n file) (omega (arith, length-parts 94 n file)))
+  done h = rw (drop-of-length-le (parts 94 n file) {i = i} (omega (arith, length-parts 94 n file)))
 
 -- ---- the whole file
 
 -- a place that no file has stands for no record
 nowhere : (file : List ℕ) → length file ≤ 940000 → recordAt file 10000 ≡ []
 unfolding recordAt
-nowhere file h = rw (drop-past 940000 file h)
+nowhere file h = rw (drop-of-length-le file h)
 
 -- the state before the first record
 abbrev pub nothingRead : State

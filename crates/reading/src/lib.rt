@@ -6,10 +6,11 @@ ghost use lib.ListN.{length};
 ghost use Rattle.paper.specs.Checks.{fine};
 ghost use Rattle.paper.specs.Fields.{every, good};
 ghost use Rattle.paper.specs.Kinds.{kindOf, allowed};
-ghost use Rattle.paper.specs.Reading.{finish, judged, lengthGood, next, reading};
-ghost use Rattle.state.specs.States.{recordAt, meant, heard, outcome, stepped, InFile, Room, Standing, Kept};
+ghost use Rattle.paper.specs.Reading.{finish, lengthGood, reading};
+ghost use Rattle.state.specs.States.{recordAt, heard, stepped, InFile, Room, Standing, Kept};
 ghost use Rattle.record.specs.Verdicts.{under};
 ghost use Rattle.reading.specs.Said.{said, Carries};
+ghost use Rattle.reading.specs.Taken.{taken};
 use field::kind;
 use field::number;
 use field::text;
@@ -34,15 +35,17 @@ pub enum Reading {
     Refused(Fault, usize),
 }
 
-// Bytes of a file, at least and at most.
-pub const SHORTEST: u64 = 188;
+impl Reading {
+    // Bytes of a file, at least and at most.
+    pub const SHORTEST: u64 = 188;
 
-pub const LONGEST: u64 = 940000;
+    pub const LONGEST: u64 = 940000;
+}
 
 fn length_good(n: usize) -> bool
     ensures { λ r. ⌜ r ≡ lengthGood n ⌝ }
 {
-    number::within(SHORTEST, LONGEST, n as u64) & (n % state::RECORD == 0)
+    number::within(Reading::SHORTEST, Reading::LONGEST, n as u64) & (n % State::RECORD == 0)
 }
 
 // Where the characters of the whole file are good, those of a record are.
@@ -94,7 +97,7 @@ fn step(
     requires { ⌜ InFile (now file) place ⌝ }
     requires { ⌜ (clean ≡ true → every good (now file) ≡ true) ⌝ }
     requires { ⌜ Room place state × Standing (state .before) place state ⌝ }
-    ensures { λ r. ⌜ (heard (now (file .entry)) (place + 1) r ≡ outcome (judged (under terms (now (roster .entry))) (meant (now (file .entry)) place state) (recordAt (now (file .entry)) place)) (next (meant (now (file .entry)) place state) (recordAt (now (file .entry)) place))) × Kept (place + 1) r ⌝ }
+    ensures { λ r. ⌜ (heard (now (file .entry)) (place + 1) r ≡ taken (under terms (now (roster .entry))) (now (file .entry)) place state) × Kept (place + 1) r ⌝ }
 {
     let rec = state::record_at(file, place);
     let kind = kind::kind(rec);
@@ -125,8 +128,8 @@ pub fn read(terms: Terms, roster: &[bool; 500], file: &[u8]) -> Reading
         return Reading::Refused(Fault::Length, 0);
     }
     let clean = text::all_good(file);
-    let records = file.len() / state::RECORD;
-    let mut state = state::START;
+    let records = file.len() / State::RECORD;
+    let mut state = State::START;
     let mut place: usize = 0;
     while place < records {
         match step(terms, roster, file, clean, place, state) {

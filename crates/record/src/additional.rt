@@ -1,7 +1,6 @@
 // 7, additional, after an individual record.
 ghost use mathlib.Core.Path.{_≡_};
 ghost use lib.ListN.{length};
-ghost use Rattle.paper.specs.declared.record.Kind.the-variants.{Additional};
 ghost use Rattle.paper.specs.Records.{additional99, additional05, additional};
 ghost use Rattle.record.specs.Verdicts.{told};
 use crate::verdict::Verdict;

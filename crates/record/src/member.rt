@@ -10,6 +10,9 @@ use field::entity;
 use paper::answer::Fault;
 use paper::rules::Currency;
 
+// From the first of its eight positions to the last. Written out below, so that the compiler knows the width; `last` is for the reader.
+const TO_LAST: usize = 7;
+
 pub fn member(
     currency: Currency,
     roster: &[bool; 500],
@@ -21,12 +24,13 @@ pub fn member(
     requires { ⌜ last ≡ first + 7 ⌝ }
     ensures { λ r. ⌜ told r ≡ member currency (now (roster .entry)) (field (now (rec .entry)) first last) ⌝ }
 {
+    let end = first + TO_LAST;
     Verdict::Right
         .need(
-            entity::of_currency(currency, rec, first, last),
+            entity::of_currency(currency, rec, first, end),
             Fault::Currency,
         )
-        .need(entity::on_roster(roster, rec, first, last), Fault::Roster)
+        .need(entity::on_roster(roster, rec, first, end), Fault::Roster)
 }
 
 pub fn member_field(
@@ -40,7 +44,8 @@ pub fn member_field(
     requires { ⌜ last ≡ first + 7 ⌝ }
     ensures { λ r. ⌜ told r ≡ memberField currency (now (roster .entry)) (field (now (rec .entry)) first last) ⌝ }
 {
+    let end = first + TO_LAST;
     Verdict::Right
-        .need(entity::entity_field(rec, first, last), Fault::Format)
-        .also(member(currency, roster, rec, first, last))
+        .need(entity::entity_field(rec, first, end), Fault::Format)
+        .also(member(currency, roster, rec, first, end))
 }

@@ -1,5 +1,5 @@
 -- What is counted grows by at most ten digits a record.
-use Prim.Native.Nat.{ℕ, _+_, _*_, _≤_, _<_, _^_}
+use Prim.Native.Nat.{ℕ, _+_, _≤_, _<_, _^_}
 use mathlib.Core.Bool.{Bool, true, false, cond}
 use mathlib.Core.List.{List}
 use mathlib.Core.Path.{_≡_}
@@ -28,7 +28,7 @@ on-side : (b : Bool) (n : ℕ) → cond b n 0 ≤ n
 on-side true n = omega arith
 on-side false n = omega arith
 
-pub below-individual : {n : ℕ} (t : Tally) (r : List ℕ) → length r ≡ 94 → Below n t → Below (n + 10000000000) (withIndividual t r)
+pub below-individual : {n : ℕ} (t : Tally) (r : List ℕ) → length r ≡ 94 → Below n t → Below (n + 10 ^ 10) (withIndividual t r)
 unfolding withIndividual amountOf
 below-individual t r l b =
     let d : number (field r 4 11) < 10 ^ 8 = number-bound 8 (field r 4 11) (simp (length-take, length-drop) (omega arith)) in

@@ -1,5 +1,5 @@
 -- A record's step: what is said, and what is kept for the next record.
-use Prim.Native.Nat.{ℕ, _+_, _*_, _≤_, _<_}
+use Prim.Native.Nat.{ℕ, _*_, _^_, _+_, _≤_, _<_}
 use mathlib.Core.Bool.{Bool, true, false}
 use mathlib.Core.List.{List}
 use mathlib.Core.Path.{_≡_}
@@ -39,7 +39,15 @@ unfolding Standing flag
 standing-flagged true place st h i = (h, i)
 standing-flagged false place st h i = h
 
--- room for one record more
-pub room-next : (place : ℕ) (st : State) → st .batches ≤ place + 1 → Below (10000000000 * place + 10000000000) (st .batch)
-    → Below (100000000000000 * place + 100000000000000) (st .closed) → Room (place + 1) st
+-- ---- room for one record more
+
+pub room-next : (place : ℕ) (st : State) → st .batches ≤ place + 1 → Below (10 ^ 10 * place + 10 ^ 10) (st .batch)
+    → Below (10 ^ 14 * place + 10 ^ 14) (st .closed) → Room (place + 1) st
 room-next place st n b c = record { batches = n; batch = below-more (st .batch) (omega arith) b; closed = below-more (st .closed) (omega arith) c }
+
+-- what is not counted on has room
+pub batch-stays : (place : ℕ) (st : State) → Room place st → Below (10 ^ 10 * place + 10 ^ 10) (st .batch)
+batch-stays place st r = below-more (st .batch) (omega arith) (r .batch)
+
+pub closed-stays : (place : ℕ) (st : State) → Room place st → Below (10 ^ 14 * place + 10 ^ 14) (st .closed)
+closed-stays place st r = below-more (st .closed) (omega arith) (r .closed)

@@ -1,9 +1,12 @@
 -- What a state of the code means, and what a step of it says.
-use Prim.Native.Nat.{ℕ, _+_, _*_, _≤_, _<_}
+use Prim.Native.Nat.{ℕ, _*_, _^_, _+_, _≤_, _<_}
 use mathlib.Core.List.{List}
+use mathlib.Core.Path.{_≡_}
 use lib.ListN.{length, take, drop}
 use Rattle.paper.specs.declared.record.Before.{Before}
 use Rattle.paper.specs.declared.record.Before.the-variants.{Nothing, Between, Opened, Flagged, Inside, Ended}
+use Rattle.paper.specs.declared.record.Kind.{Kind}
+use Rattle.paper.specs.declared.record.Kind.the-variants.{FileHeader, BatchHeader, Individual, Additional, BatchControl, FileControl, Other}
 use Rattle.paper.specs.declared.rules.Rules.{Rules}
 use Rattle.paper.specs.Answers.{numberOf}
 use Rattle.paper.specs.Checks.{Check, fine, wrong}
@@ -50,8 +53,8 @@ heard file place (Stop fault) = stops (numberOf fault)
 -- room: each of the records before this place adds at most ten digits
 pub record Room (place : ℕ) (st : State) : Type 0 where
   pub batches : st .batches ≤ place
-  pub batch : Below (10000000000 * place) (st .batch)
-  pub closed : Below (100000000000000 * place) (st .closed)
+  pub batch : Below (10 ^ 10 * place) (st .batch)
+  pub closed : Below (10 ^ 14 * place) (st .closed)
 
 -- in a batch its header stands before this place, and after a flagged individual so does that one
 unfoldable pub Standing : Before → ℕ → State → Type 0
@@ -77,3 +80,26 @@ stepped rules file place st =
     outcome
     (paper.fields (kindOf (recordAt file place)) rules (meant file place st) (recordAt file place))
     (paper.next (meant file place st) (recordAt file place))
+
+-- the places that the state holds: a header's and an individual record's own where it is one, else as they were
+abbrev headerPlace : Kind → ℕ → State → ℕ
+headerPlace FileHeader place st = st .header
+headerPlace BatchHeader place st = place
+headerPlace Individual place st = st .header
+headerPlace Additional place st = st .header
+headerPlace BatchControl place st = st .header
+headerPlace FileControl place st = st .header
+headerPlace Other place st = st .header
+
+abbrev individualPlace : Kind → ℕ → State → ℕ
+individualPlace FileHeader place st = st .individual
+individualPlace BatchHeader place st = st .individual
+individualPlace Individual place st = place
+individualPlace Additional place st = st .individual
+individualPlace BatchControl place st = st .individual
+individualPlace FileControl place st = st .individual
+individualPlace Other place st = st .individual
+
+unfoldable pub Held : Kind → ℕ → State → Step → Type 0
+Held kind place st (Next after) = (after .header ≡ headerPlace kind place st) × (after .individual ≡ individualPlace kind place st)
+Held kind place st (Stop fault) = Unit {0}

@@ -38,20 +38,22 @@ pub enum Step {
     Stop(Fault),
 }
 
-// Bytes of a record.
-pub const RECORD: usize = 94;
-// A place that no file has.
-pub const NOWHERE: usize = 10000;
-
-pub const START: State = State {
-    before: Before::Nothing,
-    header: NOWHERE,
-    individual: NOWHERE,
-    counter: 0,
-    batches: 0,
-    batch: tally::NONE,
-    closed: tally::NONE,
-};
+impl State {
+    // Bytes of a record.
+    pub const RECORD: usize = 94;
+    // A place that no file has.
+    const NOWHERE: usize = 10000;
+    // Before the first record.
+    pub const START: State = State {
+        before: Before::Nothing,
+        header: State::NOWHERE,
+        individual: State::NOWHERE,
+        counter: 0,
+        batches: 0,
+        batch: tally::NONE,
+        closed: tally::NONE,
+    };
+}
 
 // After an individual record.
 pub fn flag(flagged: bool) -> Before
@@ -68,6 +70,6 @@ pub fn record_at(file: &[u8], place: usize) -> &[u8]
     requires { ⌜ place * 94 + 94 ≤ length (now file) ⌝ }
     ensures { λ r. ⌜ (now r ≡ recordAt (now (file .entry)) place) × (length (now r) ≡ 94) ⌝ }
 {
-    let at = place * RECORD;
-    &file[at..at + RECORD]
+    let at = place * State::RECORD;
+    &file[at..at + State::RECORD]
 }

@@ -31,7 +31,7 @@ mod measuring {
     }
 
     pub fn run() {
-        println!("buffers are warm: each file is read {WARM_UP} times by both before measuring");
+        println!("buffers are warm: each file is read {WARM_UP} times by both, then measured, before the next");
         println!("{FILES} files for each size, readings in turn, median of all rounds");
         let mut ratio = 0.0;
         for (records, rounds) in [(100, 4_000), (1_000, 1_000), (10_000, 200)] {
@@ -57,14 +57,18 @@ mod measuring {
             })
             .collect();
         let (mut proved_times, mut second_times) = (Vec::new(), Vec::new());
-        for round in 0..WARM_UP + rounds {
-            for (rules, file) in &files {
-                let by_proved = timed(|| proved::read(black_box(rules), black_box(file)).is_ok());
-                let by_second = timed(|| read(black_box(rules), black_box(file)).is_ok());
-                if round >= WARM_UP {
-                    proved_times.push(by_proved);
-                    second_times.push(by_second);
-                }
+        for (rules, file) in &files {
+            let by_proved = || timed(|| proved::read(black_box(rules), black_box(file)).is_ok());
+            let by_second = || timed(|| read(black_box(rules), black_box(file)).is_ok());
+            for _ in 0..WARM_UP {
+                (by_proved(), by_second());
+            }
+            // Who goes first changes from round to round.
+            for _ in 0..rounds / 2 {
+                proved_times.push(by_proved());
+                second_times.push(by_second());
+                second_times.push(by_second());
+                proved_times.push(by_proved());
             }
         }
         Medians {

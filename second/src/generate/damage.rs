@@ -241,7 +241,7 @@ fn change_date(random: &mut Random, draft: &mut Draft, fault: &Fault) {
     if let Way::SharedNoDate = fault.way {
         let date: &[u8] = random.pick::<&[u8]>(NO_DATES);
         put(header, 24, date);
-        draft.rules.date = get_number(header, 24, 29) as u32;
+        draft.rules.date = get_number(header, 24, 29);
         return;
     }
     let other = loop {
@@ -250,7 +250,7 @@ fn change_date(random: &mut Random, draft: &mut Draft, fault: &Fault) {
             break date;
         }
     };
-    put_number(header, 24, 29, u64::from(other));
+    put_number(header, 24, 29, other);
 }
 
 /// Code, information and flag that are good alone but not together.

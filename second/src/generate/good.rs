@@ -158,7 +158,7 @@ impl<'r> Maker<'r> {
         let origin = self.entity_field();
         put(&mut header, 15, &origin);
         put(&mut header, 23, b"0");
-        put_number(&mut header, 24, 29, u64::from(self.rules.date));
+        put_number(&mut header, 24, 29, self.rules.date);
         let time = any_time(self.random);
         put(&mut header, 30, &time);
         header[33] = self
@@ -179,7 +179,7 @@ impl<'r> Maker<'r> {
         self.put_digits(&mut header, 41, 50);
         self.put_text(&mut header, 54, 63);
         let date = any_date(self.random);
-        put_number(&mut header, 70, 75, u64::from(date));
+        put_number(&mut header, 70, 75, date);
         self.put_digits(&mut header, 79, 79);
         // Often another than the file's origin: members represent others.
         if self.random.once_in(2) {
@@ -355,7 +355,7 @@ fn roster_with(random: &mut Random, entities: &[usize]) -> [bool; 500] {
     roster
 }
 
-pub fn any_date(random: &mut Random) -> u32 {
+pub fn any_date(random: &mut Random) -> u64 {
     let year = random.below(100);
     let month = random.between(1, 12);
     let last = match month {
@@ -366,7 +366,7 @@ pub fn any_date(random: &mut Random) -> u32 {
     };
     let any = random.between(1, last);
     let day = *random.pick(&[1, last, any, any]);
-    let drawn = (year * 10_000 + month * 100 + day) as u32;
+    let drawn = (year * 10_000 + month * 100 + day) as u64;
     *random.pick(&[
         229, 240_229, 960_229, 101, 991_231, drawn, drawn, drawn, drawn, drawn,
     ])

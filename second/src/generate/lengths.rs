@@ -1,6 +1,8 @@
 //! Lengths that no file has, and bytes that are no file.
 
-use super::good::any_file;
+use super::draft::Draft;
+use super::faults::Kind;
+use super::good::{any_file, file_with_batches};
 use super::random::Random;
 use super::{refused, Answer, Case};
 use crate::reading::RECORD;
@@ -46,11 +48,15 @@ fn is_length(length: usize) -> bool {
     (2..=10_000).any(|records| records * RECORD == length)
 }
 
-/// One byte of a good file becomes each of all 256 values, one after another.
-pub fn flipped(random: &mut Random, value: u8) -> Case {
-    let draft = any_file(random);
+/// One byte of a good file becomes this value; the run tells the kind of its record and its position there.
+pub fn flipped(random: &mut Random, run: usize, value: u8) -> Case {
+    let (kind, position) = (
+        Kind::ALL[run % Kind::ALL.len()],
+        run / Kind::ALL.len() % RECORD,
+    );
+    let (draft, places) = file_holding(random, kind);
+    let at = *random.pick(&places) * RECORD + position;
     let mut file = draft.bytes();
-    let at = random.below(file.len());
     let expected: Answer = if file[at] == value {
         Some(Ok(draft.records.len()))
     } else if !super::random::CHARACTERS.contains(&value) {
@@ -60,4 +66,15 @@ pub fn flipped(random: &mut Random, value: u8) -> Case {
     };
     file[at] = value;
     Case::with("byte flipped", draft.rules, file, expected)
+}
+
+/// A good file with records of this kind, and their places.
+fn file_holding(random: &mut Random, kind: Kind) -> (Draft, Vec<usize>) {
+    loop {
+        let draft = file_with_batches(random);
+        let places = draft.places(|record| kind.is(record));
+        if !places.is_empty() {
+            return (draft, places);
+        }
+    }
 }

@@ -40,7 +40,7 @@ fn no_date(random: &mut Random, draft: &mut Draft) -> Answer {
         230_229, 0, 991_332, 1, 100, 229_000, 430, 431, 999_999, 990_229, 1301,
     ]);
     draft.rules.date = date;
-    put_number(&mut draft.records[0], 24, 29, u64::from(date));
+    put_number(&mut draft.records[0], 24, 29, date);
     // 430 is the thirtieth of April 2000, the one good date among them.
     if date == 430 {
         Some(Ok(draft.records.len()))
@@ -51,7 +51,13 @@ fn no_date(random: &mut Random, draft: &mut Draft) -> Answer {
 
 fn too_many_digits(random: &mut Random, draft: &mut Draft) -> Answer {
     let old = draft.rules.date;
-    draft.rules.date = *random.pick(&[old + 1_000_000, old + 20_000_000, u32::MAX, 1_000_000]);
+    draft.rules.date = *random.pick(&[
+        old + 1_000_000,
+        old + 20_000_000,
+        old + (1 << 32),
+        u64::MAX,
+        1_000_000,
+    ]);
     refused(75, 0)
 }
 

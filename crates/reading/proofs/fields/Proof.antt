@@ -36,6 +36,15 @@ step-requires-5 c κs =
 step-requires-6 : tie.Need-step-requires-6
 step-requires-6 c κs = let p = c .before .before .before .pre in (p .0, (p .1 .0 ∙ c .enum-told6 .given .1, p .1 .1 .1 .0))
 
+returns : tie.Need-returns
+returns c = (c .step .ensures .0, c .step .ensures .1)
+
+returns-2 : tie.Need-returns-2
+returns-2 c = (c .step2 .ensures .0, c .step2 .ensures .1)
+
+returns-3 : tie.Need-returns-3
+returns-3 c = (c .step3 .ensures .0, c .step3 .ensures .1)
+
 returns-4 : tie.Need-returns-4
 returns-4 c = (c .step4 .ensures .0 _, c .step4 .ensures .1)
 
@@ -55,5 +64,4 @@ fields-spec =
     (tie.spec
     (λ c. search needs) step-requires (λ c. search needs) step-requires-2 (λ c. search needs) step-requires-3
     (λ c. search needs) step-requires-4 (λ c. search needs) step-requires-5 (λ c. search needs) step-requires-6
-    (λ c. search needs) (λ c. search needs) (λ c. search needs) (λ c. search needs) returns-4 returns-5 returns-6
-    returns-7)
+    (λ c. search needs) returns returns-2 returns-3 returns-4 returns-5 returns-6 returns-7)

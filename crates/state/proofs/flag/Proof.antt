@@ -1,4 +1,3 @@
-use borrow.Author.Needs.{needs}
 use Rattle.paper.specs.Reading.{flag}
 use Rattle.state.proofs.flag.Statement.{statement}
 use Rattle.state.proofs.flag.Tie as tie

@@ -1,5 +1,5 @@
 use borrow.Author.Needs.{needs}
-use mathlib.Core.Path.{sym, _∙_}
+use mathlib.Core.Path.{sym}
 use Rattle.paper.specs.Records.{additional, additionalBy}
 use Rattle.record.proofs.additional.judge.Statement.{statement}
 use Rattle.record.proofs.additional.judge.Tie as tie

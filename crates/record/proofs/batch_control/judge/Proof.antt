@@ -4,6 +4,16 @@ use Rattle.record.proofs.Chain.{begun}
 use Rattle.record.proofs.batch_control.judge.Statement.{statement}
 use Rattle.record.proofs.batch_control.judge.Tie as tie
 
+spells-requires-3 : tie.Need-spells-requires-3
+spells-requires-3 c κs =
+    let half = c .before .before .before .before .before .before .before in
+    search (needs, half .before .before .before .before .before .before .before .before .pre .1)
+
+spells-requires-4 : tie.Need-spells-requires-4
+spells-requires-4 c κs =
+    let half = c .before .before .before .before .before .before .before .before in
+    search (needs, half .before .before .before .before .before .before .before .before .before .pre .1)
+
 returns : tie.Need-returns
 unfolding batchControl
 returns c =
@@ -50,6 +60,5 @@ judge-spec =
     (tie.spec
     (λ c κs. search needs) (λ c κs. search needs) (λ c κs. search needs) (λ c κs. search needs) (λ c κs. search needs)
     (λ c κs. search needs) (λ c κs. search needs) (λ c κs. search needs) (λ c κs. search needs) (λ c κs. search needs)
-    (λ c κs. search needs) (λ c κs. search needs) (λ c κs. search needs) (λ c κs. search (needs, c .before .before .before .before .before .before .before .before .before .before .before .before .before .before .before .pre .1)) (λ c κs. search needs)
-    (λ c κs. search (needs, c .before .before .before .before .before .before .before .before .before .before .before .before .before .before .before .before .before .pre .1))
-    (λ c κs. search needs) returns)
+    (λ c κs. search needs) (λ c κs. search needs) (λ c κs. search needs) spells-requires-3 (λ c κs. search needs)
+    spells-requires-4 (λ c κs. search needs) returns)

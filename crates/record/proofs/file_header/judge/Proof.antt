@@ -4,6 +4,26 @@ use Rattle.record.proofs.Chain.{begun}
 use Rattle.record.proofs.file_header.judge.Statement.{statement}
 use Rattle.record.proofs.file_header.judge.Tie as tie
 
+time-requires : tie.Need-time-requires
+time-requires c κs =
+    let half = c .before .before .before .before .before .before .before .before .before in
+    search (needs, half .before .before .before .before .before .before .before .before .before .before .pre)
+
+identifier-requires : tie.Need-identifier-requires
+identifier-requires c κs =
+    let half = c .before .before .before .before .before .before .before .before .before .before in
+    search (needs, half .before .before .before .before .before .before .before .before .before .before .before .pre)
+
+reads-requires-6 : tie.Need-reads-requires-6
+reads-requires-6 c κs =
+    let half = c .before .before .before .before .before .before .before .before .before .before .before .before in
+    search (needs, half .before .before .before .before .before .before .before .before .before .before .before .before .pre)
+
+member-requires : tie.Need-member-requires
+member-requires c κs =
+    let half = c .before .before .before .before .before .before .before .before .before .before .before .before .before in
+    search (needs, half .before .before .before .before .before .before .before .before .before .before .before .before .before .pre)
+
 returns : tie.Need-returns
 unfolding fileHeader
 returns c =
@@ -64,6 +84,6 @@ judge-spec =
     (λ c. search needs) (λ c κs. search needs) (λ c κs. search needs) (λ c. search needs) (λ c κs. search needs)
     (λ c. search needs) (λ c κs. search needs) (λ c κs. search needs) (λ c. search needs) (λ c κs. search needs)
     (λ c κs. search needs) (λ c κs. search needs) (λ c. search needs) (λ c κs. search needs) (λ c κs. search needs)
-    (λ c κs. search needs) (λ c κs. search needs) (λ c κs. search needs) (λ c κs. search (needs, c .before .before .before .before .before .before .before .before .before .before .before .before .before .before .before .before .before .before .before .pre)) (λ c κs. search needs) (λ c κs. search (needs, c .before .before .before .before .before .before .before .before .before .before .before .before .before .before .before .before .before .before .before .before .before .pre))
-    (λ c κs. search needs) (λ c. search needs) (λ c κs. search (needs, c .before .before .before .before .before .before .before .before .before .before .before .before .before .before .before .before .before .before .before .before .before .before .before .before .pre)) (λ c κs. search needs) (λ c κs. search (needs, c .before .before .before .before .before .before .before .before .before .before .before .before .before .before .before .before .before .before .before .before .before .before .before .before .before .before .pre)) (λ c κs. search needs)
-    returns)
+    (λ c κs. search needs) (λ c κs. search needs) (λ c κs. search needs) time-requires (λ c κs. search needs)
+    identifier-requires (λ c κs. search needs) (λ c. search needs) reads-requires-6 (λ c κs. search needs)
+    member-requires (λ c κs. search needs) returns)

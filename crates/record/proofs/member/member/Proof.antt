@@ -10,18 +10,18 @@ returns c =
     let p1 = c .before in
     let p2 = p1 .before in
     let p3 = p2 .before in
-    let p4 = p3 .before in
-    let p5 = p4 .before in
     simp (
       c .need2 .ensures,
       p1 .on-roster .ensures,
       p2 .need .ensures,
       p3 .of-currency .ensures,
       begun,
+      p3 .before .before .pre .1,
     )
 
 pub member-spec : {M : Type 1} → statement M
 member-spec =
     tie.close
     (tie.spec
-    (λ c κs. search needs) (λ c κs. search needs) (λ c κs. search needs) (λ c κs. search needs) returns)
+    (λ c. search needs) (λ c κs. search needs) (λ c κs. search needs) (λ c κs. search needs) (λ c κs. search needs)
+    returns)

@@ -1,17 +1,17 @@
-use mathlib.Core.Path.{sym}
+use mathlib.Core.Path.{refl, sym}
 use native.Mathlib.Omega.{arith}
 use borrow.Author.Needs.{needs}
 use Rattle.paper.specs.declared.record.Kind.the-variants.{Additional}
 use Rattle.paper.specs.Reading.{fields, beforeNext, lastIndividual, counted}
 use Rattle.record.specs.Verdicts.{told}
-use Rattle.state.specs.States.{meant, heard, Standing, Kept}
+use Rattle.state.specs.States.{meant, heard, Standing, Kept, Held}
 use Rattle.state.proofs.Bounds.{below-more, below-additional}
-use Rattle.state.proofs.Steps.{goes-on, stops-at, room-next}
+use Rattle.state.proofs.Steps.{goes-on, stops-at, room-next, closed-stays}
 use Rattle.state.proofs.additional.step.Statement.{statement}
 use Rattle.state.proofs.additional.step.Tie as tie
 
 returns : tie.Need-returns
-unfolding told meant heard Standing Kept fields beforeNext lastIndividual counted
+unfolding told meant heard Standing Kept Held fields beforeNext lastIndividual counted
 returns c =
     let t = c .before .before .before in
     let j = t .before .before in
@@ -19,16 +19,18 @@ returns c =
     let a = r .before .before in (
       (λ rules. goes-on rules _ _ _ Additional (a .pre .1 .0)
           (simp (sym (r .record-at .ensures .0), sym (j .before .record-at2 .ensures .0), sym (j .judge .ensures), t .enum-told .given .1)) (rw (c .with-additional .ensures))),
-      (room-next _ _ (omega (arith, a .pre .1 .1 .0 .batches)) (rw (c .with-additional .ensures) (below-more _ (omega arith) (below-additional _ (a .pre .1 .1 .0 .batch)))) (below-more _ (omega arith) (a .pre .1 .1 .0 .closed)), omega (arith, a .pre .1 .1 .1)),
+      (room-next _ _ (omega (arith, a .pre .1 .1 .0 .batches)) (rw (c .with-additional .ensures) (below-more _ (omega arith) (below-additional _ (a .pre .1 .1 .0 .batch)))) (closed-stays _ _ (a .pre .1 .1 .0)), omega (arith, a .pre .1 .1 .1)),
+      (refl, refl),
     )
 
 returns-2 : tie.Need-returns-2
-unfolding told meant heard Kept fields
+unfolding told meant heard Kept Held fields
 returns-2 c =
     let j = c .before .before .before in
     let r = j .before .before in
     let a = r .before .before in (
       (λ rules. stops-at rules _ _ _ Additional (a .pre .1 .0) (simp (sym (r .record-at .ensures .0), sym (j .before .record-at2 .ensures .0), sym (j .judge .ensures), c .before .fault .given .1))),
+      tt,
       tt,
     )
 

@@ -1,17 +1,17 @@
-use mathlib.Core.Path.{sym}
+use mathlib.Core.Path.{refl, sym}
 use native.Mathlib.Omega.{arith}
 use borrow.Author.Needs.{needs}
 use Rattle.paper.specs.declared.record.Kind.the-variants.{BatchControl}
 use Rattle.paper.specs.Reading.{fields, beforeNext, lastIndividual, counted}
 use Rattle.record.specs.Verdicts.{told}
-use Rattle.state.specs.States.{meant, heard, Standing, Kept}
+use Rattle.state.specs.States.{meant, heard, Standing, Kept, Held}
 use Rattle.state.proofs.Bounds.{below-more, below-plus}
-use Rattle.state.proofs.Steps.{goes-on, stops-at, room-next}
+use Rattle.state.proofs.Steps.{goes-on, stops-at, room-next, batch-stays}
 use Rattle.state.proofs.batch_control.step.Statement.{statement}
 use Rattle.state.proofs.batch_control.step.Tie as tie
 
 returns : tie.Need-returns
-unfolding told meant heard Standing Kept fields beforeNext lastIndividual counted
+unfolding told meant heard Standing Kept Held fields beforeNext lastIndividual counted
 returns c =
     let t = c .before .before in
     let j = t .before .before in
@@ -19,16 +19,18 @@ returns c =
     let a = r .before .before in (
       (λ rules. goes-on rules _ _ _ BatchControl (a .pre .1 .0)
           (simp (sym (r .record-at .ensures .0), sym (j .before .before .record-at2 .ensures .0), sym (j .judge .ensures), t .enum-told .given .1)) (rw (c .plus .ensures))),
-      (room-next _ _ (omega (arith, a .pre .1 .1 .0 .batches)) (below-more _ (omega arith) (a .pre .1 .1 .0 .batch)) (rw (c .plus .ensures) (below-more _ (omega arith) (below-plus _ _ (a .pre .1 .1 .0 .closed) (a .pre .1 .1 .0 .batch)))), tt),
+      (room-next _ _ (omega (arith, a .pre .1 .1 .0 .batches)) (batch-stays _ _ (a .pre .1 .1 .0)) (rw (c .plus .ensures) (below-more _ (omega arith) (below-plus _ _ (a .pre .1 .1 .0 .closed) (a .pre .1 .1 .0 .batch)))), tt),
+      (refl, refl),
     )
 
 returns-2 : tie.Need-returns-2
-unfolding told meant heard Kept fields
+unfolding told meant heard Kept Held fields
 returns-2 c =
     let j = c .before .before .before in
     let r = j .before .before .before in
     let a = r .before .before in (
       (λ rules. stops-at rules _ _ _ BatchControl (a .pre .1 .0) (simp (sym (r .record-at .ensures .0), sym (j .before .before .record-at2 .ensures .0), sym (j .judge .ensures), c .before .fault .given .1))),
+      tt,
       tt,
     )
 

@@ -4,14 +4,13 @@ use borrow.Author.Needs.{needs}
 use Rattle.paper.specs.declared.record.Kind.the-variants.{FileHeader}
 use Rattle.paper.specs.Reading.{fields, beforeNext, lastIndividual, counted}
 use Rattle.record.specs.Verdicts.{told}
-use Rattle.state.specs.States.{meant, heard, Standing, Kept}
-use Rattle.state.proofs.Bounds.{below-more}
-use Rattle.state.proofs.Steps.{goes-on, stops-at, room-next}
+use Rattle.state.specs.States.{meant, heard, Standing, Kept, Held}
+use Rattle.state.proofs.Steps.{goes-on, stops-at, room-next, batch-stays, closed-stays}
 use Rattle.state.proofs.file_header.step.Statement.{statement}
 use Rattle.state.proofs.file_header.step.Tie as tie
 
 returns : tie.Need-returns
-unfolding told meant heard Standing Kept fields beforeNext lastIndividual counted
+unfolding told meant heard Standing Kept Held fields beforeNext lastIndividual counted
 returns c =
     let t = c .before .before in
     let j = t .before .before in
@@ -19,16 +18,18 @@ returns c =
     let a = r .before .before in (
       goes-on _ _ _ _ FileHeader (a .pre .1 .0)
           (simp (sym (r .record-at .ensures .0), sym (j .judge .ensures), t .enum-told .given .1)) refl,
-      (room-next _ _ (omega (arith, a .pre .1 .1 .batches)) (below-more _ (omega arith) (a .pre .1 .1 .batch)) (below-more _ (omega arith) (a .pre .1 .1 .closed)), tt),
+      (room-next _ _ (omega (arith, a .pre .1 .1 .batches)) (batch-stays _ _ (a .pre .1 .1)) (closed-stays _ _ (a .pre .1 .1)), tt),
+      (refl, refl),
     )
 
 returns-2 : tie.Need-returns-2
-unfolding told meant heard Kept fields
+unfolding told meant heard Kept Held fields
 returns-2 c =
     let j = c .before .before .before in
     let r = j .before in
     let a = r .before .before in (
       stops-at _ _ _ _ FileHeader (a .pre .1 .0) (simp (sym (r .record-at .ensures .0), sym (j .judge .ensures), c .before .fault .given .1)),
+      tt,
       tt,
     )
 

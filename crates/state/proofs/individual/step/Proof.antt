@@ -1,17 +1,17 @@
-use mathlib.Core.Path.{refl, sym, _∙_}
+use mathlib.Core.Path.{refl, sym}
 use native.Mathlib.Omega.{arith}
 use borrow.Author.Needs.{needs}
 use Rattle.paper.specs.declared.record.Kind.the-variants.{Individual}
 use Rattle.paper.specs.Reading.{fields, beforeNext, lastIndividual, counted}
 use Rattle.record.specs.Verdicts.{told}
-use Rattle.state.specs.States.{meant, heard, Kept}
-use Rattle.state.proofs.Bounds.{below-individual, below-more}
-use Rattle.state.proofs.Steps.{goes-on, stops-at, standing-flagged, room-next}
+use Rattle.state.specs.States.{meant, heard, Kept, Held}
+use Rattle.state.proofs.Bounds.{below-individual}
+use Rattle.state.proofs.Steps.{goes-on, stops-at, standing-flagged, room-next, closed-stays}
 use Rattle.state.proofs.individual.step.Statement.{statement}
 use Rattle.state.proofs.individual.step.Tie as tie
 
 returns : tie.Need-returns
-unfolding told meant heard Kept fields beforeNext lastIndividual counted
+unfolding told meant heard Kept Held fields beforeNext lastIndividual counted
 returns c =
     let j = c .before .before .before .before .before .before .before .before .before in
     let r = j .before .before in
@@ -22,19 +22,21 @@ returns c =
       (
         room-next _ _ (omega (arith, a .pre .1 .1 .0 .batches))
             (rw (c .with-individual .ensures) (below-individual _ _ (r .record-at .ensures .1) (a .pre .1 .1 .0 .batch)))
-            (below-more _ (omega arith) (a .pre .1 .1 .0 .closed)),
+            (closed-stays _ _ (a .pre .1 .1 .0)),
         rw (c .before .before .flag .ensures) (standing-flagged _ _ _ (omega (arith, a .pre .1 .1 .1)) (omega arith)),
       ),
+      (refl, refl),
     )
 
 returns-2 : tie.Need-returns-2
-unfolding told meant heard Kept fields
+unfolding told meant heard Kept Held fields
 returns-2 c =
     let j = c .before .before .before in
     let r = j .before .before in
     let a = r .before .before in (
       stops-at _ _ _ _ Individual (a .pre .1 .0)
           (simp (sym (r .record-at .ensures .0), sym (j .before .record-at2 .ensures .0), sym (j .judge .ensures), c .before .fault .given .1)),
+      tt,
       tt,
     )
 

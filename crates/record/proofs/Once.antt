@@ -1,0 +1,15 @@
+-- What a verdict says fixes it.
+use mathlib.Core.Path.{_≡_, refl, sym, ap}
+use Rattle.paper.specs.Answers.{numberOf}
+use Rattle.paper.proofs.Accepted.{wrong-not-fine}
+use Rattle.paper.proofs.Numbers.{own-number}
+use Rattle.record.specs.declared.verdict.Verdict.{Verdict}
+use Rattle.record.specs.declared.verdict.Verdict.the-variants.{Right, Wrong}
+use Rattle.record.specs.Verdicts.{told}
+
+pub verdict-once : (a b : Verdict) → told a ≡ told b → a ≡ b
+unfolding told
+verdict-once Right Right h = refl
+verdict-once Right (Wrong g) h = absurd (wrong-not-fine (sym h))
+verdict-once (Wrong f) Right h = absurd (wrong-not-fine h)
+verdict-once (Wrong f) (Wrong g) h = let e : numberOf f ≡ numberOf g = cc in ap Wrong (own-number f g e)
