@@ -2,7 +2,7 @@
 use Prim.Native.Nat.{ℕ, zero, suc, _*_, _<_}
 use mathlib.Core.Bool.{Bool, true, false}
 use mathlib.Core.List.{List, [], _∷_}
-use mathlib.Core.Path.{_≡_}
+use mathlib.Core.Path.{_≡_, _∙_}
 use lib.Dec.{T}
 use lib.ListN.{take, drop}
 use Rattle.paper.specs.declared.record.Before.{Before}
@@ -15,7 +15,7 @@ use Rattle.paper.specs.Fields.{every, good}
 use Rattle.paper.specs.Kinds.{kindOf, allowed}
 use Rattle.paper.specs.Reading.{judged}
 use Rattle.paper.proofs.Tests.{and-l, and-r, T-of, of-T}
-use Rattle.paper.proofs.Accepted.{wrong-not-fine, Follows, file-begins, batch-opens, file-ends, first-individual, its-additional, next-individual, batch-closes}
+use Rattle.paper.proofs.Accepted.{wrong-not-fine, Follows, follows, file-begins, batch-opens, file-ends, first-individual, its-additional, next-individual, batch-closes}
 use Rattle.state.specs.declared.State.{State}
 use Rattle.state.specs.States.{recordAt, meant, stops, outcome, stepped, Standing}
 use Rattle.reading.specs.Taken.{taken}
@@ -53,7 +53,7 @@ inBatch BatchControl = true
 inBatch FileControl = false
 inBatch Other = false
 
-pub header-stands : {b : Before} {k : Kind} (place : ℕ) (st : State) → T (inBatch k) → Follows b k → Standing b place st → st .header < place
+header-stands : {b : Before} {k : Kind} (place : ℕ) (st : State) → T (inBatch k) → Follows b k → Standing b place st → st .header < place
 unfolding Standing
 header-stands place st h file-begins s = absurd h
 header-stands place st h batch-opens s = absurd h
@@ -64,7 +64,7 @@ header-stands place st h next-individual s = s
 header-stands place st h batch-closes s = s
 
 -- an additional record stands after its individual one
-pub individual-stands : (b : Before) (place : ℕ) (st : State) → allowed b Additional ≡ fine → Standing b place st → st .individual < place
+individual-stands : (b : Before) (place : ℕ) (st : State) → allowed b Additional ≡ fine → Standing b place st → st .individual < place
 unfolding allowed Standing
 individual-stands Nothing place st h s = absurd (wrong-not-fine h)
 individual-stands Between place st h s = absurd (wrong-not-fine h)
@@ -72,6 +72,21 @@ individual-stands Opened place st h s = absurd (wrong-not-fine h)
 individual-stands Flagged place st h s = s .1
 individual-stands Inside place st h s = absurd (wrong-not-fine h)
 individual-stands Ended place st h s = absurd (wrong-not-fine h)
+
+-- what a record's step asks, by the kind that it turned out to be
+module _ (file : List ℕ) (place : ℕ) (st : State) {kind is : Kind} (told : kindOf (recordAt file place) ≡ kind) (may : allowed (st .before) kind ≡ fine)
+    (s : Standing (st .before) place st) (e : kind ≡ is) where
+  pub of-kind : kindOf (recordAt file place) ≡ is
+  of-kind = told ∙ e
+
+  may-be : allowed (st .before) is ≡ fine
+  may-be = rw e at may
+
+  pub header-before : T (inBatch is) → st .header < place
+  header-before h = header-stands place st h (follows (st .before) is may-be) s
+
+  pub individual-before : is ≡ Additional → st .individual < place
+  individual-before h = individual-stands (st .before) place st (rw h at may-be) s
 
 -- ---- the whole
 

@@ -1,40 +1,48 @@
 use mathlib.Core.Path.{refl, _∙_}
 use borrow.Author.Needs.{needs}
-use Rattle.paper.specs.declared.record.Kind.the-variants.{Individual, Additional, BatchControl, Other}
+use Rattle.paper.specs.declared.record.Kind.the-variants.{Other}
 use Rattle.paper.specs.Reading.{fields}
-use Rattle.paper.proofs.Accepted.{follows}
 use Rattle.state.specs.States.{heard, Kept}
 use Rattle.state.proofs.Steps.{stops-at}
-use Rattle.reading.proofs.Records.{header-stands, individual-stands}
+use Rattle.reading.proofs.Records.{of-kind, header-before, individual-before}
 use Rattle.reading.proofs.fields.Statement.{statement}
 use Rattle.reading.proofs.fields.Tie as tie
 
 step-requires : tie.Need-step-requires
-step-requires c κs = let p = c .before .before .before .pre in (p .0, (p .1 .0 ∙ c .enum-told .given .1, p .1 .1 .1 .0))
+step-requires c κs =
+    let p = c .before .before .before .pre in
+    let e = c .enum-told .given .1 in
+    (p .0, (of-kind _ _ _ (p .1 .0) (p .1 .1 .0) (p .1 .1 .1 .1) e, p .1 .1 .1 .0))
 
 step-requires-2 : tie.Need-step-requires-2
-step-requires-2 c κs = let p = c .before .before .before .pre in (p .0, (p .1 .0 ∙ c .enum-told2 .given .1, p .1 .1 .1 .0))
+step-requires-2 c κs =
+    let p = c .before .before .before .pre in
+    let e = c .enum-told2 .given .1 in
+    (p .0, (of-kind _ _ _ (p .1 .0) (p .1 .1 .0) (p .1 .1 .1 .1) e, p .1 .1 .1 .0))
 
 step-requires-3 : tie.Need-step-requires-3
 step-requires-3 c κs =
     let p = c .before .before .before .pre in
-    let f = follows _ Individual (rw (c .enum-told3 .given .1) at (p .1 .1 .0)) in
-    (p .0, (p .1 .0 ∙ c .enum-told3 .given .1, (p .1 .1 .1 .0, header-stands _ _ tt f (p .1 .1 .1 .1))))
+    let e = c .enum-told3 .given .1 in
+    (p .0, (of-kind _ _ _ (p .1 .0) (p .1 .1 .0) (p .1 .1 .1 .1) e, (p .1 .1 .1 .0, header-before _ _ _ (p .1 .0) (p .1 .1 .0) (p .1 .1 .1 .1) e tt)))
 
 step-requires-4 : tie.Need-step-requires-4
 step-requires-4 c κs =
     let p = c .before .before .before .pre in
-    let a = rw (c .enum-told4 .given .1) at (p .1 .1 .0) in
-    (p .0, (p .1 .0 ∙ c .enum-told4 .given .1, (p .1 .1 .1 .0, header-stands _ _ tt (follows _ Additional a) (p .1 .1 .1 .1), individual-stands _ _ _ a (p .1 .1 .1 .1))))
+    let e = c .enum-told4 .given .1 in
+    (p .0, (of-kind _ _ _ (p .1 .0) (p .1 .1 .0) (p .1 .1 .1 .1) e, (p .1 .1 .1 .0, header-before _ _ _ (p .1 .0) (p .1 .1 .0) (p .1 .1 .1 .1) e tt, individual-before _ _ _ (p .1 .0) (p .1 .1 .0) (p .1 .1 .1 .1) e refl)))
 
 step-requires-5 : tie.Need-step-requires-5
 step-requires-5 c κs =
     let p = c .before .before .before .pre in
-    let f = follows _ BatchControl (rw (c .enum-told5 .given .1) at (p .1 .1 .0)) in
-    (p .0, (p .1 .0 ∙ c .enum-told5 .given .1, (p .1 .1 .1 .0, header-stands _ _ tt f (p .1 .1 .1 .1))))
+    let e = c .enum-told5 .given .1 in
+    (p .0, (of-kind _ _ _ (p .1 .0) (p .1 .1 .0) (p .1 .1 .1 .1) e, (p .1 .1 .1 .0, header-before _ _ _ (p .1 .0) (p .1 .1 .0) (p .1 .1 .1 .1) e tt)))
 
 step-requires-6 : tie.Need-step-requires-6
-step-requires-6 c κs = let p = c .before .before .before .pre in (p .0, (p .1 .0 ∙ c .enum-told6 .given .1, p .1 .1 .1 .0))
+step-requires-6 c κs =
+    let p = c .before .before .before .pre in
+    let e = c .enum-told6 .given .1 in
+    (p .0, (of-kind _ _ _ (p .1 .0) (p .1 .1 .0) (p .1 .1 .1 .1) e, p .1 .1 .1 .0))
 
 returns : tie.Need-returns
 returns c = (c .step .ensures .0, c .step .ensures .1)
