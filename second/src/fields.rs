@@ -32,7 +32,8 @@ pub fn date(field: &[u8]) -> Option<u64> {
     number(field).filter(|&date| is_date(date))
 }
 
-fn is_date(date: u64) -> bool {
+/// The opening takes any number, so one of more than six digits must be no date.
+pub fn is_date(date: u64) -> bool {
     let (year, month, day) = (date / 10_000, date / 100 % 100, date % 100);
     let days = match month {
         1 | 3 | 5 | 7 | 8 | 10 | 12 => 31,
@@ -42,7 +43,7 @@ fn is_date(date: u64) -> bool {
         2 => 28,
         _ => 0,
     };
-    (1..=days).contains(&day)
+    year < 100 && (1..=days).contains(&day)
 }
 
 /// Four blanks, or hours and minutes.

@@ -1,11 +1,15 @@
 //! Good and damaged files, each made from a seed and its number alone.
 
 mod damage;
+pub mod day;
+mod desk;
 mod draft;
 mod faults;
 pub mod good;
 mod large;
 mod lengths;
+pub mod listing;
+mod opening;
 pub mod random;
 mod session;
 mod structure;
@@ -40,6 +44,11 @@ impl Case {
     }
 }
 
+/// The kinds of generated things draw from streams of their own, each from its seed and number.
+const FLIPS: u64 = 1 << 63;
+const DAYS: u64 = 1 << 62;
+const LISTINGS: u64 = 1 << 61;
+
 fn refused(number: u16, place: usize) -> Answer {
     Some(Err(Refusal { number, place }))
 }
@@ -73,7 +82,6 @@ fn good_file(random: &mut Random) -> Case {
 
 /// 256 flips in a row share their file and their byte. Every position of every kind of record comes once in 658 such runs.
 fn flip(seed: u64, number: u64) -> Case {
-    const FLIPS: u64 = 1 << 63;
     let (run, value) = (number / 256, number % 256);
     let mut random = Random::new(seed, FLIPS + run);
     lengths::flipped(&mut random, run as usize, value as u8)

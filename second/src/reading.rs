@@ -14,10 +14,7 @@ const LONGEST: usize = 10_000 * RECORD;
 /// The number of records of a good file.
 pub fn read(rules: &Rules, file: &[u8]) -> Result<usize, Refusal> {
     if !(SHORTEST..=LONGEST).contains(&file.len()) || !file.len().is_multiple_of(RECORD) {
-        return Err(Refusal {
-            number: LENGTH,
-            place: 0,
-        });
+        return Err(Refusal::of_no_record(LENGTH));
     }
     let mut reading = Reading::new(rules);
     for (place, record) in file.chunks_exact(RECORD).enumerate() {

@@ -18,6 +18,15 @@ pub const REFERENCE: u16 = 79;
 pub const INFORMATION: u16 = 87;
 pub const OTHER_CURRENCY: u16 = 203;
 pub const NOT_ON_ROSTER: u16 = 204;
+pub const ENTITY_NUMBER: u16 = 208;
+pub const IDENTIFIER: u16 = 209;
+
+impl Refusal {
+    /// A refusal tied to no record.
+    pub fn of_no_record(number: u16) -> Self {
+        Refusal { number, place: 0 }
+    }
+}
 
 /// Within a record only the number is known; `read` adds the place.
 pub(crate) fn require(holds: bool, number: u16) -> Result<(), u16> {

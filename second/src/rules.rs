@@ -9,7 +9,7 @@ pub enum Currency {
     Dollars,
 }
 
-#[derive(Clone)]
+#[derive(Clone, Debug, PartialEq, Eq)]
 pub struct Rules {
     /// AAMMDD, as the number those digits spell.
     pub date: u64,

@@ -1,2 +1,3 @@
 pub mod Ends
 pub mod Succession
+pub mod Printed

@@ -1,2 +1,4 @@
-pub mod Handed
 pub mod Once
+pub mod Handed
+pub mod Days
+pub mod Cells

@@ -1,1 +1,2 @@
 pub mod Spoken
+pub mod Day

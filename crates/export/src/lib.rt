@@ -1,13 +1,19 @@
 // The library for programs in Rust and C: functions on numbers and byte slices.
 ghost use mathlib.Core.Path.{_≡_};
-ghost use Prim.Native.Nat.{ℕ, _/_};
+ghost use Prim.Native.Nat.{_/_};
 ghost use lib.ListN.{length};
+ghost use Rattle.paper.specs.Answers.{said};
 ghost use Rattle.paper.specs.Reading.{reading};
-ghost use Rattle.reading.specs.Said.{said, Carries};
+ghost use Rattle.paper.specs.Listing.{positionsOf};
+ghost use Rattle.listing.specs.Room.{Written};
 ghost use Rattle.export.specs.Spoken.{spokenOf, currencyOf};
+use listing::lines::Listing;
+use paper::answer::Answer;
 use paper::rules::Currency;
 use paper::rules::Terms;
 use reading::Reading;
+
+pub mod day;
 
 // An answer in the paper's numbers: 0 and the number of records, or the refusal number and its place.
 #[repr(C)]
@@ -25,15 +31,15 @@ fn currency(dollars: bool) -> Currency
     Currency::Pesos
 }
 
-fn speak(answer: Reading) -> Spoken
-    ensures { λ r. ⌜ ((records : ℕ) → Carries records answer → r ≡ spokenOf records (said answer)) ⌝ }
+fn speak(records: usize, answer: Answer) -> Spoken
+    ensures { λ r. ⌜ r ≡ spokenOf records (said answer) ⌝ }
 {
     match answer {
-        Reading::Accepted(records) => Spoken {
+        Answer::Accepted => Spoken {
             number: 0,
             place: records as u64,
         },
-        Reading::Refused(fault, place) => Spoken {
+        Answer::Refused(fault, place) => Spoken {
             number: fault.number(),
             place: place as u64,
         },
@@ -54,5 +60,16 @@ pub extern "C" fn shaydhoqel_read(
         date: date,
         currency: currency(dollars),
     };
-    speak(reading::read(terms, roster, file))
+    match reading::read(terms, roster, file) {
+        Reading::Accepted(records) => speak(records, Answer::Accepted),
+        Reading::Refused(fault, place) => speak(0, Answer::Refused(fault, place)),
+    }
+}
+
+// What the program `positions` prints for this input, and how many bytes that is.
+#[no_mangle]
+pub extern "C" fn shaydhoqel_listing(input: &[u8], out: &mut [u8; Listing::ROOM]) -> u64
+    ensures { λ r. ⌜ Written (positionsOf (now (input .entry))) r (now (out .entry)) (now (out .exit)) ⌝ }
+{
+    listing::positions(input, out) as u64
 }

@@ -1,19 +1,18 @@
--- A position is no larger than the amounts of its postings together.
+-- However figures are added up over entities: a position is no larger than the amounts of its postings together, a count than their number.
 use Prim.Native.Nat.{ℕ, zero, suc, _+_, _*_, _-_, _≤_, _<_, _^_}
 use native.Mathlib.Nat.{suc-mul, zero-mul}
 use native.Mathlib.Omega.{arith}
 use mathlib.Core.Bool.{Bool, true, false, cond, not}
-use mathlib.Core.List.{[], List, _∷_, _++_}
-use mathlib.Core.Path.{_≡_, refl}
+use mathlib.Core.List.{[], List, _∷_}
+use mathlib.Core.Path.{_≡_, refl, ap}
 use lib.Dec.{eqb, ltb, ltb→lt}
 use lib.IntN.{ℤ, pos, negsuc, natAbs, subℕ, _+ℤ_, negℤ}
 use lib.ListN.{length}
 use Rattle.paper.specs.declared.rules.Rules.{Rules}
-use Rattle.paper.specs.Postings.{Posting, signed, effect, position}
+use Rattle.paper.specs.Postings.{Posting, signed, effect, position, count}
 use Rattle.paper.proofs.Tests.{T-of}
+use Rattle.paper.proofs.Sums.{only, Adds, total-effect, total-position, total-count}
 use Rattle.paper.proofs.Places.{AllSound}
-
--- ---- a position is no larger than the postings' amounts together
 
 sub-abs : (a b : ℕ) → natAbs (subℕ a b) ≤ a + b
 sub-abs a b = go (ltb a b) refl
@@ -32,40 +31,51 @@ natAbs-neg : (n : ℕ) → natAbs (negℤ (pos n)) ≡ n
 natAbs-neg zero = refl
 natAbs-neg (suc n) = refl
 
-abs-signed : (b : Bool) (n : ℕ) → natAbs (signed b n) ≡ n
+pub abs-signed : (b : Bool) (n : ℕ) → natAbs (signed b n) ≡ n
 unfolding signed
 abs-signed true n = refl
 abs-signed false n = natAbs-neg n
 
-abs-when : (x b : Bool) (n : ℕ) → natAbs (cond x (signed b n) (pos 0)) ≤ n
-abs-when true b n = omega (arith, abs-signed b n)
-abs-when false b n = omega arith
-
 -- twice the amount, where an entity sends to itself: a step on the way may see one half
-pub effect-bound : (e : ℕ) (p : Posting) → natAbs (effect e p) ≤ 2 * p .amount
-unfolding effect
-effect-bound e p =
+effect-bound : {total : (ℕ → ℤ) → ℤ} → Adds total → (p : Posting) → natAbs (total (λ e. effect e p)) ≤ 2 * p .amount
+effect-bound {total} a p =
+    let from : ℤ = signed (p .collects) (p .amount) in
+    let to : ℤ = signed (not (p .collects)) (p .amount) in
     omega (
       arith,
-      natAbs-plus (cond (eqb e (p .sender)) (signed (p .collects) (p .amount)) (pos 0)) (cond (eqb e (p .destination)) (signed (not (p .collects)) (p .amount)) (pos 0)),
-      abs-when (eqb e (p .sender)) (p .collects) (p .amount),
-      abs-when (eqb e (p .destination)) (not (p .collects)) (p .amount),
+      ap natAbs (total-effect a p),
+      natAbs-plus (total (only (p .sender) from)) (total (only (p .destination) to)),
+      a .part (p .sender) from,
+      a .part (p .destination) to,
+      abs-signed (p .collects) (p .amount),
+      abs-signed (not (p .collects)) (p .amount),
     )
 
-abbrev pub AllBelow : List Posting → Type 0
-AllBelow [] = Unit {0}
-AllBelow (p ∷ ps) = (p .amount < 10 ^ 10) × AllBelow ps
-
-pub sound-below : (rules : Rules) (ps : List Posting) → AllSound rules ps → AllBelow ps
-sound-below rules [] s = tt
-sound-below rules (p ∷ ps) s = (s .0 .below, sound-below rules ps (s .1))
-
-pub below-append : (a b : List Posting) → AllBelow a → AllBelow b → AllBelow (a ++ b)
-below-append [] b p q = q
-below-append (x ∷ a) b p q = (p .0, below-append a b (p .1) q)
-
-pub position-bound : (e : ℕ) (ps : List Posting) → AllBelow ps → natAbs (position e ps) ≤ length ps * (2 * 10 ^ 10)
+pub position-bound : {total : (ℕ → ℤ) → ℤ} → Adds total → (rules : Rules) (ps : List Posting) → AllSound rules ps
+    → natAbs (total (λ e. position e ps)) ≤ length ps * (2 * 10 ^ 10)
 unfolding position
-position-bound e [] s = omega (arith, zero-mul (2 * 10 ^ 10))
-position-bound e (p ∷ ps) s =
-    omega (arith, natAbs-plus (effect e p) (position e ps), effect-bound e p, position-bound e ps (s .1), s .0, suc-mul (length ps) (2 * 10 ^ 10))
+position-bound a rules [] s = omega (arith, ap natAbs (a .none), zero-mul (2 * 10 ^ 10))
+position-bound {total} a rules (p ∷ ps) s =
+    omega (
+      arith,
+      ap natAbs (total-position a p ps),
+      natAbs-plus (total (λ e. effect e p)) (total (λ e. position e ps)),
+      effect-bound a p,
+      position-bound a rules ps (s .1),
+      s .0 .below,
+      suc-mul (length ps) (2 * 10 ^ 10),
+    )
+
+-- on either side
+pub count-bound : {total : (ℕ → ℤ) → ℤ} → Adds total → (side : Posting → ℕ) (ps : List Posting)
+    → natAbs (total (λ e. pos (count (λ p. eqb e (side p)) ps))) ≤ length ps
+unfolding count
+count-bound a side [] = omega (arith, ap natAbs (a .none))
+count-bound {total} a side (p ∷ ps) =
+    omega (
+      arith,
+      ap natAbs (total-count a side p ps),
+      natAbs-plus (total (only (side p) (pos 1))) (total (λ e. pos (count (λ q. eqb e (side q)) ps))),
+      a .part (side p) (pos 1),
+      count-bound a side ps,
+    )

@@ -2,7 +2,7 @@
 use Prim.Native.Nat.{ℕ, zero, suc, _+_, _*_, _-_, _≤_, _<_, _/_, _%_, _^_}
 use native.Mathlib.Nat.{pow-zero, pow-suc, mod-lt}
 use native.Mathlib.Omega.{arith}
-use mathlib.Core.Bool.{Bool, true, false, _&&_, cond}
+use mathlib.Core.Bool.{Bool, true, false, _&&_, cond, and-assoc}
 use mathlib.Core.List.{[], List, _∷_, _++_}
 use mathlib.Core.Path.{_≡_, refl, sym, ap, _∙_, ap₂}
 use lib.Arith.{mod-mul, digits-div, digits-mod}
@@ -23,19 +23,16 @@ unfolding valueFrom
 valueFrom-snoc n [] d = refl
 valueFrom-snoc n (x ∷ f) d = valueFrom-snoc (n * 10 + (x - 48)) f d
 
-pub every-l : (p : ℕ → Bool) (a b : List ℕ) → T (every p (a ++ b)) → T (every p a)
+pub every-append : (p : ℕ → Bool) (a b : List ℕ) → every p (a ++ b) ≡ (every p a && every p b)
 unfolding every
-every-l p [] b t = tt
-every-l p (x ∷ a) b t = go (p x) t (every-l p a b)
-  where
-    go : (c : Bool) → T (c && every p (a ++ b)) → (T (every p (a ++ b)) → T (every p a)) → T (c && every p a)
-    go true t r = r t
-    go false t r = t
+every-append p [] b = refl
+every-append p (x ∷ a) b = ap (λ (c : Bool). p x && c) (every-append p a b) ∙ sym (and-assoc (p x) (every p a) (every p b))
+
+pub every-l : (p : ℕ → Bool) (a b : List ℕ) → T (every p (a ++ b)) → T (every p a)
+every-l p a b t = and-l (every p a) (every p b) (rw (every-append p a b) at t)
 
 pub every-r : (p : ℕ → Bool) (a b : List ℕ) → T (every p (a ++ b)) → T (every p b)
-unfolding every
-every-r p [] b t = t
-every-r p (x ∷ a) b t = every-r p a b (and-r (p x) (every p (a ++ b)) t)
+every-r p a b t = and-r (every p a) (every p b) (rw (every-append p a b) at t)
 
 pub digit-range : (d : ℕ) → T (digit d) → (48 ≤ d) × (d ≤ 57)
 unfolding digit

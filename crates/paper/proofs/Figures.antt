@@ -1,5 +1,5 @@
 -- Demand 2: after any calls each entity's position and counts are the sums over the records of the files accepted; positions add up to zero, and sent counts as received.
-use Prim.Native.Nat.{ℕ, zero, suc, _+_, _<_}
+use Prim.Native.Nat.{ℕ, zero, suc, _+_, _≤_, _<_}
 use native.Mathlib.Nat.{mod-lt, zero-add, add-zero}
 use native.Mathlib.Omega.{arith}
 use mathlib.Core.List.{[], List, _∷_, _++_, append-nil, append-assoc}
@@ -82,7 +82,7 @@ after-agree qs e (c ∷ cs) ps h = (
   after-agree qs (e + 1) cs ps (h .1),
 )
 
-length-after : (qs : List Posting) (e : ℕ) (cs : List Cell) → length (cellsAfter e qs cs) ≡ length cs
+pub length-after : (qs : List Posting) (e : ℕ) (cs : List Cell) → length (cellsAfter e qs cs) ≡ length cs
 unfolding cellsAfter
 length-after qs e [] = refl
 length-after qs e (c ∷ cs) = ap suc (length-after qs (e + 1) cs)
@@ -142,21 +142,27 @@ figures {s} {files} c e l =
     let t = kept-came c in
     subst (λ (n : ℕ). Agrees (getD (s .cells) e zeroCell) n (postingsOf files)) (zero-add e) (agree-at (s .cells) 0 e (postingsOf files) (t .agree) (omega (arith, t .cells)))
 
+-- so a figure adds up over the cells as it does over the postings
+pub sums-agree : {s : Session} {files : List (List ℕ)} → Came s files → (n : ℕ) → n ≤ 500 → (figure : Cell → ℤ) (posted : ℕ → ℤ)
+    → ((c : Cell) (e : ℕ) → Agrees c e (postingsOf files) → figure c ≡ posted e) → sumTo n (λ e. figure (getD (s .cells) e zeroCell)) ≡ sumTo n posted
+sums-agree {s} c n h figure posted same =
+    sumTo-same n (λ e. figure (getD (s .cells) e zeroCell)) posted (λ e l. same (getD (s .cells) e zeroCell) e (figures c e (omega arith)))
+
 -- positions add up to zero
 pub positions-zero : {s : Session} {files : List (List ℕ)} → Came s files → sumTo 500 (λ e. (getD (s .cells) e zeroCell) .position) ≡ pos 0
-positions-zero {s} {files} c =
-    sumTo-same 500 (λ e. (getD (s .cells) e zeroCell) .position) (λ e. position e (postingsOf files)) (λ e l. figures c e l .position)
+positions-zero {files = files} c =
+    sums-agree c 500 (omega arith) (λ d. d .position) (λ e. position e (postingsOf files)) (λ d e a. a .position)
     ∙ positions-cancel (postingsOf files) (within-files files)
 
 -- sent counts add up to the number of records posted, and received counts alike
 pub sent-sum : {s : Session} {files : List (List ℕ)} → Came s files
     → sumTo 500 (λ e. pos ((getD (s .cells) e zeroCell) .sent)) ≡ pos (length (postingsOf files))
-sent-sum {s} {files} c =
-    sumTo-same 500 (λ e. pos ((getD (s .cells) e zeroCell) .sent)) (λ e. pos (sent e (postingsOf files))) (λ e l. ap pos (figures c e l .sent))
+sent-sum {files = files} c =
+    sums-agree c 500 (omega arith) (λ d. pos (d .sent)) (λ e. pos (sent e (postingsOf files))) (λ d e a. ap pos (a .sent))
     ∙ counts-add (λ p. p .sender) (λ p w. w .sender) (postingsOf files) (within-files files)
 
 pub received-sum : {s : Session} {files : List (List ℕ)} → Came s files
     → sumTo 500 (λ e. pos ((getD (s .cells) e zeroCell) .received)) ≡ pos (length (postingsOf files))
-received-sum {s} {files} c =
-    sumTo-same 500 (λ e. pos ((getD (s .cells) e zeroCell) .received)) (λ e. pos (received e (postingsOf files))) (λ e l. ap pos (figures c e l .received))
+received-sum {files = files} c =
+    sums-agree c 500 (omega arith) (λ d. pos (d .received)) (λ e. pos (received e (postingsOf files))) (λ d e a. ap pos (a .received))
     ∙ counts-add (λ p. p .destination) (λ p w. w .destination) (postingsOf files) (within-files files)

@@ -50,7 +50,7 @@ identifies b t = or-go (digit b) (capital b) t
     (λ c. let r = within-range 65 90 b c in inr (r .0, r .1, rw (lt-leb b 57 (omega arith))))
 
 -- position 34 of an accepted file
-identifier-good : (rules : Rules) (file : List ℕ) → reading rules file ≡ accepted → T (digit (getD file 33 0) || capital (getD file 33 0))
+pub identifier-good : (rules : Rules) (file : List ℕ) → reading rules file ≡ accepted → T (digit (getD file 33 0) || capital (getD file 33 0))
 unfolding identifierField every
 identifier-good rules file h =
     let a = accepted-facts rules file h in
@@ -95,7 +95,7 @@ pub key-lt : (file : List ℕ) → identifierOf file < 36 → keyOf file < 18000
 unfolding keyOf originOf
 key-lt file l = omega (arith, entity-lt (field file 15 22))
 
-among-snoc : (ks : List ℕ) (k j : ℕ) → among (ks ++ k ∷ []) j ≡ (eqb j k || among ks j)
+pub among-snoc : (ks : List ℕ) (k j : ℕ) → among (ks ++ k ∷ []) j ≡ (eqb j k || among ks j)
 unfolding among
 among-snoc [] k j = refl
 among-snoc (x ∷ ks) k j = ap (λ (b : Bool). eqb j x || b) (among-snoc ks k j) ∙ swap (eqb j x) (eqb j k) (among ks j)

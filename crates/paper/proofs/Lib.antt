@@ -13,6 +13,9 @@ pub mod Figures
 pub mod Own
 pub mod Identifiers
 pub mod Room
+pub mod Totals
+pub mod Rosters
+pub mod Program
 pub mod Closing
 pub mod Round
 pub mod Normal

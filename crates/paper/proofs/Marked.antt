@@ -10,7 +10,7 @@ pub marked-cases : All table
 unfolding computing
 marked-cases =
     refl and  -- 1
-    refl and refl and  -- 2
+    refl and refl and refl and  -- 2
     presenting-unchanged afterL caseL refl and  -- 3
     refl and  -- 4
     refl and refl and  -- 5

@@ -12,12 +12,12 @@ use Rattle.paper.specs.Fields.{field}
 use Rattle.paper.specs.Entities.{entity}
 use Rattle.paper.specs.Kinds.{kindOf}
 use Rattle.paper.specs.Reading.{recordsOf, reading}
-use Rattle.paper.specs.Postings.{Posting, posting, postedBy}
+use Rattle.paper.specs.Postings.{Posting, posting, postedBy, ownPostings}
 use Rattle.paper.specs.Sessions.{Session, zeroCell, keyOf, answerTo, presenting}
 use Rattle.paper.specs.Demands.{withAccepted, Came, opened, presented, postingsOf, allRecords, names, naming, Equal}
 use Rattle.paper.proofs.Refusals.{both-accept, required}
 use Rattle.paper.proofs.Sums.{namedBy, postingsNaming, own-same}
-use Rattle.paper.proofs.Places.{ownPostings, postings-own}
+use Rattle.paper.proofs.Places.{postings-own}
 use Rattle.paper.proofs.Figures.{postingsOf-snoc, figures}
 
 own-append : (a b : List (List ℕ)) → ownPostings (a ++ b) ≡ ownPostings a ++ ownPostings b

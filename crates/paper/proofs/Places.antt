@@ -19,7 +19,7 @@ use Rattle.paper.specs.Fields.{field, every, good, is}
 use Rattle.paper.specs.Entities.{entity}
 use Rattle.paper.specs.Kinds.{kindOf}
 use Rattle.paper.specs.Reading.{counted, State, start, flag, beforeNext, next, fields, parts, recordsOf, reading}
-use Rattle.paper.specs.Postings.{Posting, posting, postedBy, senderAfter, postingsFrom, postings}
+use Rattle.paper.specs.Postings.{Posting, posting, postedBy, senderAfter, postingsFrom, postings, ownPostings}
 use Rattle.paper.specs.Demands.{Reads}
 use Rattle.paper.proofs.Accepted.{individual-read, Follows, file-begins, batch-opens, file-ends, first-individual, its-additional, next-individual, batch-closes, judged-facts, accepted-facts}
 use Rattle.paper.proofs.Facts.{Facts, AllFacts, own-sender, file-facts}
@@ -59,10 +59,6 @@ record-facts rules file h i l =
     record { good = a .0; facts = a .1 }
 
 -- ---- each individual record names its own sender
-
-unfoldable pub ownPostings : List (List ℕ) → List Posting
-ownPostings [] = []
-ownPostings (r ∷ rs) = postedBy (kindOf r) (entity (field r 80 87)) r ++ ownPostings rs
 
 -- the sender in hand is that of the batch
 abbrev Sent : Before → List ℕ → ℕ → Type 0
@@ -122,7 +118,7 @@ abbrev pub AllSound : Rules → List Posting → Type 0
 AllSound rules [] = Unit {0}
 AllSound rules (p ∷ ps) = Sound rules p × AllSound rules ps
 
-sound-append : (rules : Rules) (a b : List Posting) → AllSound rules a → AllSound rules b → AllSound rules (a ++ b)
+pub sound-append : (rules : Rules) (a b : List Posting) → AllSound rules a → AllSound rules b → AllSound rules (a ++ b)
 sound-append rules [] b p q = q
 sound-append rules (x ∷ a) b p q = (p .0, sound-append rules a b (p .1) q)
 

@@ -3,17 +3,20 @@ use Prim.Native.Nat.{ℕ, zero, suc, _+_, _*_, _≤_, _<_, _^_}
 use native.Mathlib.Omega.{arith}
 use mathlib.Core.Bool.{Bool, true, false, cond}
 use mathlib.Core.List.{[], List, _∷_, _++_}
-use mathlib.Core.Path.{_≡_, refl, _∙_}
-use lib.Dec.{eqb}
-use lib.IntN.{natAbs}
-use lib.ListN.{length, getD, length-append, set, replicate}
+use mathlib.Core.Path.{_≡_, refl, ap, _∙_}
+use lib.Dec.{ltb}
+use lib.IntN.{ℤ, pos, natAbs}
+use lib.ListN.{length, getD, length-append, set, replicate, List·getD-eq-default}
+use borrow.Author.Tests.{ltb-true, ltb-false}
+use Rattle.paper.specs.declared.ledger.Cell.{Cell}
 use Rattle.paper.specs.Answers.{Said, accepted, refused}
-use Rattle.paper.specs.Postings.{Posting, postings, count}
+use Rattle.paper.specs.Postings.{Posting, postings, position, sent, received}
 use Rattle.paper.specs.Sessions.{Session, zeroCell, newSession, keyOf, answerTo, sessionAfter, presenting}
-use Rattle.paper.specs.Demands.{withAccepted, Came, opened, presented, postingsOf}
-use Rattle.paper.proofs.Places.{postings-sound, postings-count}
-use Rattle.paper.proofs.Bounds.{AllBelow, sound-below, below-append, position-bound}
-use Rattle.paper.proofs.Figures.{postingsOf-snoc, opened-by, figures}
+use Rattle.paper.specs.Demands.{withAccepted, Came, opened, presented, postingsOf, Touched, sessionSides}
+use Rattle.paper.proofs.Sums.{Adds, one-adds}
+use Rattle.paper.proofs.Places.{AllSound, sound-append, postings-sound, postings-count}
+use Rattle.paper.proofs.Bounds.{position-bound, count-bound}
+use Rattle.paper.proofs.Figures.{postingsOf-snoc, opened-by, cells-came, figures}
 use Rattle.paper.proofs.Own.{presented-new}
 use Rattle.paper.proofs.Identifiers.{identifier-lt, key-lt, used-length}
 
@@ -59,47 +62,68 @@ pub files-bound : {s : Session} {files : List (List ℕ)} → Came s files → l
 files-bound {s} c = omega (arith, marks-bound (s .used), marks-files c, used-length c)
 
 -- the postings of the accepted files
-record Bounded (files : List (List ℕ)) : Type 0 where
-  below : AllBelow (postingsOf files)
+record Posted (s : Session) (files : List (List ℕ)) : Type 0 where
+  sound : AllSound (s .rules) (postingsOf files)
   count : length (postingsOf files) ≤ length files * 10000
 
-bounded-came : {s : Session} {files : List (List ℕ)} → Came s files → Bounded files
-unfolding postingsOf presenting answerTo withAccepted
-bounded-came (opened date currency entities) = record { below = tt; count = omega arith }
-bounded-came (presented {s} {files} c file) = go (answerTo s file) refl (bounded-came c)
+posted-came : {s : Session} {files : List (List ℕ)} → Came s files → Posted s files
+unfolding postingsOf presenting answerTo sessionAfter withAccepted
+posted-came (opened date currency entities) = record { sound = tt; count = omega arith }
+posted-came (presented {s} {files} c file) = go (answerTo s file) refl (posted-came c)
   where
-    go : (a : Said) → answerTo s file ≡ a → Bounded files → Bounded (withAccepted a files file)
+    go : (a : Said) → answerTo s file ≡ a → Posted s files → Posted (sessionAfter a s file) (withAccepted a files file)
     go (refused n place) e b = b
     go accepted e b =
         let p = presented-new s file e .0 in
         let q : postingsOf (files ++ file ∷ []) ≡ postingsOf files ++ postings file = postingsOf-snoc files file in
         record {
-          below = rw q (below-append (postingsOf files) (postings file) (b .below) (sound-below (s .rules) (postings file) (postings-sound (s .rules) file p)));
+          sound = rw q (sound-append (s .rules) (postingsOf files) (postings file) (b .sound) (postings-sound (s .rules) file p));
           count = rw (q, length-append (postingsOf files) (postings file), length-snoc files file) (omega (arith, b .count, postings-count (s .rules) file p));
         }
+
+-- no accepted record names an entity that is not on the roster, or 0
+pub sound-came : {s : Session} {files : List (List ℕ)} → Came s files → AllSound (s .rules) (postingsOf files)
+sound-came c = posted-came c .sound
+
+-- ---- figures that add up what postings say
+
+-- a cell holds what postings say, added up over entities
+pub record Totalled (total : (ℕ → ℤ) → ℤ) (c : Cell) (ps : List Posting) : Type 0 where
+  pub position : c .position ≡ total (λ e. position e ps)
+  pub sent : pos (c .sent) ≡ total (λ e. pos (sent e ps))
+  pub received : pos (c .received) ≡ total (λ e. pos (received e ps))
+
+-- 18,000 files of 10,000 records at most, and a posting has two sides
+pub totalled-touched : {s : Session} {files : List (List ℕ)} {total : (ℕ → ℤ) → ℤ} {d : Cell} → Came s files → Adds total
+    → Totalled total d (postingsOf files) → Touched sessionSides d
+totalled-touched {s} {files} c a t =
+    let n : length (postingsOf files) ≤ 180000000 = omega (arith, posted-came c .count, files-bound c) in
+    record {
+      position = omega (arith, ap natAbs (t .position), position-bound a (s .rules) (postingsOf files) (sound-came c));
+      sent = omega (arith, ap natAbs (t .sent), count-bound a (λ p. p .sender) (postingsOf files));
+      received = omega (arith, ap natAbs (t .received), count-bound a (λ p. p .destination) (postingsOf files));
+    }
+
+-- ---- of one cell
+
+-- of any number: beyond the 500 cells there are zeros
+pub cells-touched : {s : Session} {files : List (List ℕ)} → Came s files → (e : ℕ) → Touched sessionSides (getD (s .cells) e zeroCell)
+cells-touched {s} {files} c e = go (ltb e 500) refl
+  where
+    go : (b : Bool) → ltb e 500 ≡ b → Touched sessionSides (getD (s .cells) e zeroCell)
+    go true h =
+        let a = figures c e (ltb-true e 500 h) in
+        totalled-touched c (one-adds e) (record { position = a .position; sent = ap pos (a .sent); received = ap pos (a .received) })
+    go false h =
+        let l : 500 ≤ e = ltb-false e 500 h in
+        rw (List·getD-eq-default (s .cells) zeroCell {n = e} (omega (arith, cells-came c))) (record { position = omega arith; sent = omega arith; received = omega arith })
 
 -- no position leaves 64 bits
 pub position-fits : {s : Session} {files : List (List ℕ)} → Came s files → (e : ℕ) → e < 500
     → natAbs ((getD (s .cells) e zeroCell) .position) < 2 ^ 63
-position-fits {s} {files} c e l =
-    let b = bounded-came c in
-    rw (figures c e l .position) (omega (arith, position-bound e (postingsOf files) (b .below), b .count, files-bound c))
-
-count-bound : (test : Posting → Bool) (ps : List Posting) → count test ps ≤ length ps
-unfolding count
-count-bound test [] = omega arith
-count-bound test (p ∷ ps) = go (test p) (count-bound test ps)
-  where
-    go : (b : Bool) → count test ps ≤ length ps → cond b 1 0 + count test ps ≤ suc (length ps)
-    go true h = omega arith
-    go false h = omega arith
+position-fits c e l = omega (arith, cells-touched c e .position)
 
 -- and no count does
 pub counts-fit : {s : Session} {files : List (List ℕ)} → Came s files → (e : ℕ) → e < 500
     → ((getD (s .cells) e zeroCell) .sent < 2 ^ 64) × ((getD (s .cells) e zeroCell) .received < 2 ^ 64)
-counts-fit {s} {files} c e l =
-    let b = bounded-came c in
-    let a = figures c e l in (
-      rw (a .sent) (omega (arith, count-bound (λ p. eqb e (p .sender)) (postingsOf files), b .count, files-bound c)),
-      rw (a .received) (omega (arith, count-bound (λ p. eqb e (p .destination)) (postingsOf files), b .count, files-bound c)),
-    )
+counts-fit c e l = let t = cells-touched c e in (omega (arith, t .sent), omega (arith, t .received))

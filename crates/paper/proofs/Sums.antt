@@ -5,10 +5,10 @@ use native.Mathlib.Omega.{arith}
 use mathlib.Core.Bool.{Bool, true, false, cond, not, _||_}
 use mathlib.Core.List.{[], List, _∷_, _++_}
 use mathlib.Core.Path.{_≡_, refl, sym, ap, _∙_, ap₂}
-use lib.Dec.{eqb, eqb→eq}
-use lib.IntN.{ℤ, pos, _+ℤ_, +ℤ-assoc, +ℤ-idr, +ℤ-idl, +ℤ-comm, +ℤ-invr, +ℤ-invl}
+use lib.Dec.{eqb, ltb, eqb→eq}
+use lib.IntN.{ℤ, pos, natAbs, _+ℤ_, +ℤ-assoc, +ℤ-idr, +ℤ-idl, +ℤ-comm, +ℤ-invr, +ℤ-invl}
 use lib.ListN.{length}
-use borrow.Author.Tests.{ne-eqb, eqb-false}
+use borrow.Author.Tests.{ne-eqb, eqb-false, ltb-true, ltb-false}
 use Rattle.paper.specs.Postings.{Posting, signed, effect, position, count, sent, received}
 use Rattle.paper.specs.Demands.{sumTo}
 
@@ -50,6 +50,53 @@ sumTo-only (suc n) s z h = go (eqb n s) refl (sumTo-only n s z)
     go true e r = let q : n ≡ s = eqb→eq n s (rw e tt) in rw (e, sumTo-none n s z (omega arith)) (+ℤ-idl z)
     go false e r = let ne : n ≡ s → ⊥ = eqb-false n s e in rw e (+ℤ-idr (sumTo n (only s z)) ∙ r (omega arith))
 
+-- ---- a way to add up over entities: the figure of one, or those of the first n
+
+pub record Adds (total : (ℕ → ℤ) → ℤ) : Type 0 where
+  pub none : total (λ e. pos 0) ≡ pos 0
+  pub plus : (f g : ℕ → ℤ) → total (λ e. f e +ℤ g e) ≡ total f +ℤ total g
+  pub part : (s : ℕ) (z : ℤ) → natAbs (total (only s z)) ≤ natAbs z
+
+pub one-adds : (e : ℕ) → Adds (λ f. f e)
+unfolding only
+one-adds e = record { none = refl; plus = λ f g. refl; part = λ s z. go z (eqb e s) }
+  where
+    go : (z : ℤ) (b : Bool) → natAbs (cond b z (pos 0)) ≤ natAbs z
+    go z true = omega arith
+    go z false = omega arith
+
+pub first-adds : (n : ℕ) → Adds (sumTo n)
+first-adds n = record { none = sumTo-zero n; plus = sumTo-plus n; part = λ s z. go s z (ltb s n) refl }
+  where
+    go : (s : ℕ) (z : ℤ) (b : Bool) → ltb s n ≡ b → natAbs (sumTo n (only s z)) ≤ natAbs z
+    go s z true e = rw (sumTo-only n s z (ltb-true s n e)) (omega arith)
+    go s z false e = rw (sumTo-none n s z (ltb-false s n e)) (omega arith)
+
+-- a posting adds a part at its sender and one at its destination
+pub total-effect : {total : (ℕ → ℤ) → ℤ} → Adds total → (p : Posting)
+    → total (λ e. effect e p) ≡ total (only (p .sender) (signed (p .collects) (p .amount))) +ℤ total (only (p .destination) (signed (not (p .collects)) (p .amount)))
+unfolding effect only
+total-effect a p = a .plus (only (p .sender) (signed (p .collects) (p .amount))) (only (p .destination) (signed (not (p .collects)) (p .amount)))
+
+pub total-position : {total : (ℕ → ℤ) → ℤ} → Adds total → (p : Posting) (ps : List Posting)
+    → total (λ e. position e (p ∷ ps)) ≡ total (λ e. effect e p) +ℤ total (λ e. position e ps)
+unfolding position
+total-position a p ps = a .plus (λ e. effect e p) (λ e. position e ps)
+
+-- and counts one on either side
+pub total-count : {total : (ℕ → ℤ) → ℤ} → Adds total → (side : Posting → ℕ) (p : Posting) (ps : List Posting)
+    → total (λ e. pos (count (λ q. eqb e (side q)) (p ∷ ps))) ≡ total (only (side p) (pos 1)) +ℤ total (λ e. pos (count (λ q. eqb e (side q)) ps))
+unfolding count only
+total-count {total} a side p ps =
+    ap total (λ i e. one (eqb e (side p)) (count (λ q. eqb e (side q)) ps) i)
+    ∙ a .plus (only (side p) (pos 1)) (λ e. pos (count (λ q. eqb e (side q)) ps))
+  where
+    one : (b : Bool) (n : ℕ) → pos (cond b 1 0 + n) ≡ cond b (pos 1) (pos 0) +ℤ pos n
+    one true n = refl
+    one false n = refl
+
+-- ---- over all entities
+
 pub signed-not : (b : Bool) (a : ℕ) → signed b a +ℤ signed (not b) a ≡ pos 0
 unfolding signed
 signed-not true a = +ℤ-invr (pos a)
@@ -69,33 +116,25 @@ within-append [] b p q = q
 within-append (x ∷ a) b p q = (p .0, within-append a b (p .1) q)
 
 effects-cancel : (p : Posting) → Within p → sumTo 500 (λ e. effect e p) ≡ pos 0
-unfolding effect only
 effects-cancel p w =
-    sumTo-plus 500 (only (p .sender) (signed (p .collects) (p .amount))) (only (p .destination) (signed (not (p .collects)) (p .amount)))
+    total-effect (first-adds 500) p
     ∙ ap₂ _+ℤ_ (sumTo-only 500 (p .sender) (signed (p .collects) (p .amount)) (w .sender)) (sumTo-only 500 (p .destination) (signed (not (p .collects)) (p .amount)) (w .destination))
     ∙ signed-not (p .collects) (p .amount)
 
 pub positions-cancel : (ps : List Posting) → AllWithin ps → sumTo 500 (λ e. position e ps) ≡ pos 0
 unfolding position
 positions-cancel [] w = sumTo-zero 500
-positions-cancel (p ∷ ps) w =
-    sumTo-plus 500 (λ e. effect e p) (λ e. position e ps)
-    ∙ ap₂ _+ℤ_ (effects-cancel p (w .0)) (positions-cancel ps (w .1))
+positions-cancel (p ∷ ps) w = total-position (first-adds 500) p ps ∙ ap₂ _+ℤ_ (effects-cancel p (w .0)) (positions-cancel ps (w .1))
 
 -- each posting counts once for one entity on either side: over all entities, sent as received
 pub counts-add : (side : Posting → ℕ) → ((p : Posting) → Within p → side p < 500) → (ps : List Posting) → AllWithin ps
     → sumTo 500 (λ e. pos (count (λ p. eqb e (side p)) ps)) ≡ pos (length ps)
-unfolding count only
+unfolding count
 counts-add side low [] w = sumTo-zero 500
 counts-add side low (p ∷ ps) w =
-    sumTo-same 500 (λ e. pos (cond (eqb e (side p)) 1 0 + count (λ q. eqb e (side q)) ps)) (λ e. only (side p) (pos 1) e +ℤ pos (count (λ q. eqb e (side q)) ps)) (λ e l. one (eqb e (side p)) (count (λ q. eqb e (side q)) ps))
-    ∙ sumTo-plus 500 (only (side p) (pos 1)) (λ e. pos (count (λ q. eqb e (side q)) ps))
+    total-count (first-adds 500) side p ps
     ∙ ap₂ _+ℤ_ (sumTo-only 500 (side p) (pos 1) (low p (w .0))) (counts-add side low ps (w .1))
     ∙ ap pos (omega arith)
-  where
-    one : (b : Bool) (n : ℕ) → pos (cond b 1 0 + n) ≡ cond b (pos 1) (pos 0) +ℤ pos n
-    one true n = refl
-    one false n = refl
 
 pub position-append : (e : ℕ) (ps qs : List Posting) → position e (ps ++ qs) ≡ position e ps +ℤ position e qs
 unfolding position

@@ -3,8 +3,8 @@ use Prim.Native.Nat.{ℕ, zero, suc, _+_}
 use Prim.Native.String.{String}
 use mathlib.Core.Path.{_≡_}
 use mathlib.Core.Bool.{true, false, not, cond}
-use mathlib.Core.List.{List, [], _∷_, map}
-use lib.ListN.{getD, replicate}
+use mathlib.Core.List.{List, [], _∷_, _++_, map}
+use lib.ListN.{replicate}
 use Rattle.paper.specs.declared.rules.Rules.{Rules}
 use Rattle.paper.specs.declared.rules.Currency.{Currency}
 use Rattle.paper.specs.declared.ledger.Cell.{Cell}
@@ -12,13 +12,19 @@ use Rattle.paper.specs.Answers.{Said, accepted, refused}
 use Rattle.paper.specs.Fields.{bytes, every, good}
 use Rattle.paper.specs.Dates.{isDate}
 use Rattle.paper.specs.Reading.{reading}
-use Rattle.paper.specs.Sessions.{Session, zeroCell, opening, presenting}
+use Rattle.paper.specs.Sessions.{Session, opening, cellOf, presenting}
+use Rattle.paper.specs.Listing.{positionsOf}
 use Rattle.paper.specs.Buffers.{Outcome, extracting, building, stripping}
 
 -- the good ones of n bytes from b on
 unfoldable pub goodFrom : ℕ → ℕ → List ℕ
 goodFrom zero b = []
 goodFrom (suc n) b = let rest = goodFrom n (b + 1) in cond (good b) (b ∷ rest) rest
+
+-- each line ends in one line feed
+abbrev pub textLines : List String → List ℕ
+textLines [] = []
+textLines (l ∷ ls) = bytes l ++ 10 ∷ textLines ls
 
 pub data Claim : Type 0 where
   characters : String → Claim
@@ -29,6 +35,7 @@ pub data Claim : Type 0 where
   answers : Session → List ℕ → Said → Claim
   presents : Session → List ℕ → Said → Session → Claim
   holds : Session → List ℕ → List Cell → Claim
+  prints : List ℕ → List String → Claim
   extracts : Rules → ℕ → List ℕ → List ℕ → Outcome → Claim
   builds : Rules → List ℕ → List ℕ → List ℕ → Outcome → Claim
   strips : Rules → List ℕ → List ℕ → Outcome → Claim
@@ -41,7 +48,8 @@ Holds (reads rules file answer) = reading rules file ≡ answer
 Holds (opens date currency entities answer) = opening date currency entities .answer ≡ answer
 Holds (answers s file answer) = presenting s file .answer ≡ answer
 Holds (presents s file answer after) = presenting s file ≡ record { answer = answer; session = after }
-Holds (holds s entities cells) = map (λ e. getD (s .cells) e zeroCell) entities ≡ cells
+Holds (holds s entities cells) = map (cellOf s) entities ≡ cells
+Holds (prints file text) = positionsOf file ≡ textLines text
 Holds (extracts rules e file buffer outcome) = extracting rules e file buffer ≡ outcome
 Holds (builds rules header tray buffer outcome) = building rules header tray buffer ≡ outcome
 Holds (strips rules file buffer outcome) = stripping rules file buffer ≡ outcome

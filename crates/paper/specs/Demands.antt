@@ -1,11 +1,11 @@
 -- The words in which the three demands are stated.
-use Prim.Native.Nat.{ℕ, zero, suc}
+use Prim.Native.Nat.{ℕ, zero, suc, _*_, _≤_, _^_}
 use mathlib.Core.Path.{_≡_}
 use mathlib.Core.Bool.{Bool, false, cond, _||_}
 use mathlib.Core.List.{List, [], _∷_, _++_}
 use mathlib.Core.Logic.{_⊎_}
 use lib.Dec.{eqb}
-use lib.IntN.{ℤ, pos, _+ℤ_}
+use lib.IntN.{ℤ, pos, natAbs, _+ℤ_}
 use Rattle.paper.specs.declared.rules.Rules.{Rules}
 use Rattle.paper.specs.declared.rules.Currency.{Currency}
 use Rattle.paper.specs.declared.ledger.Cell.{Cell}
@@ -59,6 +59,16 @@ pub record Agrees (c : Cell) (e : ℕ) (ps : List Posting) : Type 0 where
   pub position : c .position ≡ position e ps
   pub sent : c .sent ≡ sent e ps
   pub received : c .received ≡ received e ps
+
+-- the figures of a cell to which at most n sides of postings were put, of ten digits each
+pub record Touched (n : ℕ) (c : Cell) : Type 0 where
+  pub position : natAbs (c .position) ≤ n * 10 ^ 10
+  pub sent : c .sent ≤ n
+  pub received : c .received ≤ n
+
+-- how many sides the files of a session can have: 18,000 files of 10,000 records, two sides each
+abbrev pub sessionSides : ℕ
+sessionSides = 18000 * 20000
 
 -- f 0 + f 1 + .. + f (n - 1)
 unfoldable pub sumTo : ℕ → (ℕ → ℤ) → ℤ

@@ -10,6 +10,7 @@ pub mod Reading
 pub mod Postings
 pub mod Sessions
 pub mod Writing
+pub mod Listing
 pub mod Extract
 pub mod Trays
 pub mod Buffers

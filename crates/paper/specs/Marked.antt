@@ -9,7 +9,7 @@ use Rattle.paper.specs.declared.ledger.Cell.{Cell}
 use Rattle.paper.specs.Answers.{accepted, refused}
 use Rattle.paper.specs.Sessions.{Session, opening, presenting}
 use Rattle.paper.specs.CaseL.{caseL, empty, put, without}
-use Rattle.paper.specs.Claims.{reads, opens, presents, holds, Row, case, dated}
+use Rattle.paper.specs.Claims.{reads, opens, presents, holds, prints, Row, case, dated}
 
 -- on the day of case L
 abbrev pub today : Currency → Rules
@@ -30,6 +30,7 @@ table =
     case 2 (reads (today Pesos) caseL accepted) ∷
     case 2 (holds afterL (401 ∷ 402 ∷ 403 ∷ 404 ∷ [])
     (cell (pos 60000) 2 1 ∷ cell (negℤ (pos 12500)) 0 1 ∷ cell (negℤ (pos 47500)) 1 1 ∷ cell (pos 0) 0 0 ∷ [])) ∷
+    case 2 (prints caseL ("ENTITY SENT RECEIVED NET" ∷ "401 2 1 60000" ∷ "402 0 1 -12500" ∷ "403 1 1 -47500" ∷ "SUM 3 3 0" ∷ [])) ∷
     -- L presented twice: 209, session unchanged
     case 3 (presents afterL caseL (refused 209 0) afterL) ∷
     -- first amount 0000000000: 19 at 2

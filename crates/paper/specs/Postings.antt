@@ -49,6 +49,11 @@ postingsFrom sender (r ∷ rs) = postedBy (kindOf r) sender r ++ postingsFrom (s
 unfoldable pub postings : List ℕ → List Posting
 postings file = postingsFrom 0 (recordsOf file)
 
+-- each individual record names its sender itself, in 80-87: in an accepted file that of its batch
+unfoldable pub ownPostings : List (List ℕ) → List Posting
+ownPostings [] = []
+ownPostings (r ∷ rs) = postedBy (kindOf r) (entity (field r 80 87)) r ++ ownPostings rs
+
 -- who collects rises by the amount, who does not falls by it
 unfoldable pub signed : Bool → ℕ → ℤ
 signed true amount = pos amount

@@ -1,6 +1,6 @@
 -- A session, opening and presenting.
 use Prim.Native.Nat.{ℕ, zero, suc, _+_, _-_, _*_}
-use mathlib.Core.Bool.{Bool, true, false, not}
+use mathlib.Core.Bool.{Bool, true, false, not, cond}
 use mathlib.Core.List.{List, [], _∷_}
 use lib.Dec.{leb}
 use lib.ListN.{getD, set, replicate}
@@ -58,6 +58,10 @@ openedWith (refused n place) date currency entities = newSession 101 Pesos []
 
 unfoldable pub opening : ℕ → Currency → List ℕ → Reply
 opening date currency entities = record { answer = openingAnswer date entities; session = openedWith (openingAnswer date entities) date currency entities }
+
+-- what a session holds for an entity; a number that is none holds nothing
+unfoldable pub cellOf : Session → ℕ → Cell
+cellOf s e = cond (within 1 499 e) (getD (s .cells) e zeroCell) zeroCell
 
 -- ---- presenting
 

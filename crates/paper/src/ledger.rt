@@ -4,3 +4,12 @@ pub struct Cell {
     pub sent: u64,
     pub received: u64,
 }
+
+impl Cell {
+    // What a new session holds.
+    pub const ZERO: Cell = Cell {
+        position: 0,
+        sent: 0,
+        received: 0,
+    };
+}

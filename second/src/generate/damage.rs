@@ -4,7 +4,7 @@ use super::draft::{get_number, put, put_number, Draft};
 use super::faults::{Check, Kind, Way, NO_DATES};
 use super::good::{any_date, file_with_batches};
 use super::random::{Random, CHARACTERS};
-use super::{refused, Case};
+use super::{refused, Answer, Case};
 use crate::Currency;
 
 /// A fault chosen from the table for one record of a draft.
@@ -22,7 +22,7 @@ impl Fault {
         &self.kind.checks()[self.rank]
     }
 
-    fn refusal(&self) -> Option<Result<usize, crate::Refusal>> {
+    fn refusal(&self) -> Answer {
         refused(self.check().number, self.place)
     }
 
@@ -38,10 +38,16 @@ impl Fault {
 
 pub fn one_fault(random: &mut Random) -> Case {
     let mut draft = file_with_batches(random);
-    let fault = any_fault(random, &draft);
-    apply_all(random, &mut draft, &[fault]);
-    drop_unflagged_additional(random, &mut draft, fault.place);
-    Case::of("one fault", &draft, fault.refusal())
+    let refusal = put_fault(random, &mut draft);
+    Case::of("one fault", &draft, refusal)
+}
+
+/// One fault in a draft with at least one batch; its rules may change with it.
+pub fn put_fault(random: &mut Random, draft: &mut Draft) -> Answer {
+    let fault = any_fault(random, draft);
+    apply_all(random, draft, &[fault]);
+    drop_unflagged_additional(random, draft, fault.place);
+    fault.refusal()
 }
 
 pub fn two_faults_in_one_record(random: &mut Random) -> Case {

@@ -62,6 +62,26 @@ pub fn file_with_batches(random: &mut Random) -> Draft {
     maker.finish()
 }
 
+/// A small file for given rules: 2 to some 40 records.
+pub fn small_file(random: &mut Random, rules: &Rules, entities: &[usize]) -> Draft {
+    let batches = *random.pick(&[0, 1, 1, 1, 2, 2, 3, 4]);
+    let largest = *random.pick(&[1, 2, 4, 8]);
+    let mut maker = Maker::among(random, rules.clone(), entities.to_vec());
+    for _ in 0..batches {
+        let entries = maker.random.between(1, largest);
+        maker.batch(entries);
+    }
+    maker.finish()
+}
+
+/// A file for given rules of exactly so many records.
+pub fn long_file(random: &mut Random, rules: &Rules, entities: &[usize], records: usize) -> Draft {
+    let mut maker = Maker::among(random, rules.clone(), entities.to_vec());
+    maker.amounts = MODEST;
+    maker.fill_up(records);
+    maker.finish()
+}
+
 /// A file of exactly so many records, in batches of some twenty.
 pub fn file_of(random: &mut Random, records: usize) -> Draft {
     let mut maker = Maker::new(random);
@@ -76,6 +96,16 @@ impl<'r> Maker<'r> {
         let currency = *random.pick(&[Currency::Pesos, Currency::Dollars]);
         let roster = roster_with(random, &entities);
         let date = any_date(random);
+        let rules = Rules {
+            date,
+            currency,
+            roster,
+        };
+        Maker::among(random, rules, entities)
+    }
+
+    /// Files that suit these rules, among these entities.
+    pub fn among(random: &'r mut Random, rules: Rules, entities: Vec<usize>) -> Self {
         let filling = *random.pick(&[Filling::Blank, Filling::Characters, Filling::Mixed]);
         let sequence = if random.once_in(3) {
             random.below(9_000_000) as u64
@@ -85,11 +115,7 @@ impl<'r> Maker<'r> {
         let widest_gap = *random.pick(&[1, 1, 1, 50]);
         Maker {
             random,
-            rules: Rules {
-                date,
-                currency,
-                roster,
-            },
+            rules,
             amounts: Amounts::UpTo(9_999_999_999),
             destination: None,
             entities,
@@ -274,17 +300,7 @@ impl<'r> Maker<'r> {
 
     pub fn entity_field(&mut self) -> [u8; 8] {
         let entity = *self.random.pick(&self.entities);
-        let added = if self.rules.currency == Currency::Dollars {
-            500
-        } else {
-            0
-        };
-        let any = self.random.below(10_000);
-        let branch = *self.random.pick(&[0, 1, 9_999, any]);
-        let mut form = [b' '; RECORD];
-        put_number(&mut form, 1, 4, (entity + added) as u64);
-        put_number(&mut form, 5, 8, branch as u64);
-        std::array::from_fn(|index| form[index])
+        entity_field(self.random, self.rules.currency, entity)
     }
 
     fn amount(&mut self) -> u64 {
@@ -320,6 +336,21 @@ impl<'r> Maker<'r> {
     }
 }
 
+/// The entity with any branch.
+pub fn entity_field(random: &mut Random, currency: Currency, entity: usize) -> [u8; 8] {
+    let added = if currency == Currency::Dollars {
+        500
+    } else {
+        0
+    };
+    let any = random.below(10_000);
+    let branch = *random.pick(&[0, 1, 9_999, any]);
+    let mut form = [b' '; RECORD];
+    put_number(&mut form, 1, 4, (entity + added) as u64);
+    put_number(&mut form, 5, 8, branch as u64);
+    std::array::from_fn(|index| form[index])
+}
+
 /// The file's last individual record takes the highest number there is.
 fn end_at_last_sequence(draft: &mut Draft) {
     let Some(place) = draft.last_before(draft.records.len(), b'6') else {
@@ -331,7 +362,7 @@ fn end_at_last_sequence(draft: &mut Draft) {
     }
 }
 
-fn some_entities(random: &mut Random) -> Vec<usize> {
+pub fn some_entities(random: &mut Random) -> Vec<usize> {
     (0..random.between(1, 6))
         .map(|_| match random.below(5) {
             0 => 1,

@@ -12,19 +12,24 @@ pub fn damaged_structure(random: &mut Random) -> Case {
     } else {
         file_with_batches(random)
     };
-    let (family, expected) = match random.below(11) {
-        0 => ("cut after a record", cut(random, &mut draft)),
-        1 => ("record dropped", drop_record(random, &mut draft)),
-        2 => ("record doubled", double(random, &mut draft)),
-        3 => ("records swapped", swap(random, &mut draft)),
-        4 => ("surplus after the 9", add_after_end(random, &mut draft)),
-        5 | 6 => ("another type", change_type(random, &mut draft)),
-        7 => ("record inserted", insert(random, &mut draft)),
-        8 => ("additional missing", lose_additional(random, &mut draft)),
-        9 => ("additional surplus", repeat_additional(random, &mut draft)),
-        _ => ("empty batch", insert_empty_batch(random, &mut draft)),
-    };
+    let (family, expected) = disorder(random, &mut draft);
     Case::of(family, &draft, expected)
+}
+
+/// The records of a good draft in another order, or others.
+pub fn disorder(random: &mut Random, draft: &mut Draft) -> (&'static str, Answer) {
+    match random.below(11) {
+        0 => ("cut after a record", cut(random, draft)),
+        1 => ("record dropped", drop_record(random, draft)),
+        2 => ("record doubled", double(random, draft)),
+        3 => ("records swapped", swap(random, draft)),
+        4 => ("surplus after the 9", add_after_end(random, draft)),
+        5 | 6 => ("another type", change_type(random, draft)),
+        7 => ("record inserted", insert(random, draft)),
+        8 => ("additional missing", lose_additional(random, draft)),
+        9 => ("additional surplus", repeat_additional(random, draft)),
+        _ => ("empty batch", insert_empty_batch(random, draft)),
+    }
 }
 
 /// The number of a record that may not stand behind `before`, told from the paper's sentence.

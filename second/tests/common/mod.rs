@@ -1,5 +1,8 @@
 //! Small files written by hand, position by position.
 
+// Each test file takes its part of these.
+#![allow(dead_code)]
+
 use second::{read, Currency, Refusal, Rules};
 
 pub type Record = [u8; 94];
@@ -111,4 +114,52 @@ pub fn refused(number: u16, place: usize) -> Result<usize, Refusal> {
 
 pub fn put(record: &mut Record, from: usize, text: &str) {
     record[from - 1..from - 1 + text.len()].copy_from_slice(text.as_bytes());
+}
+
+/// One batch with one individual record and its additional, presented by `origin` as `identifier`.
+pub struct Single<'a> {
+    pub origin: &'a str,
+    pub identifier: &'a str,
+    pub sender: &'a str,
+    pub code: &'a str,
+    pub destination: &'a str,
+    pub amount: u64,
+}
+
+impl Single<'_> {
+    pub fn records(&self) -> Vec<Record> {
+        let counter = format!("{}0000001", self.sender);
+        let amount = format!("{:010}", self.amount);
+        let (debits, credits) = match self.code {
+            "37" | "36" => (self.amount, 0),
+            _ => (0, self.amount),
+        };
+        let sums = format!("00{}{debits:012}{credits:012}", self.destination);
+        let mut header = header(self.origin);
+        put(&mut header, 34, self.identifier);
+        vec![
+            header,
+            batch_header(self.sender, "0000001"),
+            individual(self.code, self.destination, &amount, "001", &counter),
+            self.additional(&counter),
+            batch_control(&format!("000002{sums}"), self.sender, "0000001"),
+            file_control(&format!("00000100000100000002{sums}")),
+        ]
+    }
+
+    fn additional(&self, counter: &str) -> Record {
+        match self.code {
+            "36" | "31" => record(&[
+                (1, "799R02"),
+                (7, "040200010000009"),
+                (28, "00000000"),
+                (80, counter),
+            ]),
+            _ => record(&[(1, "705"), (84, "0001"), (88, &counter[8..])]),
+        }
+    }
+
+    pub fn file(&self) -> Vec<u8> {
+        self.records().concat()
+    }
 }

@@ -1,12 +1,15 @@
 use borrow.Author.Needs.{needs}
-use Rattle.export.proofs.Handed.{handed-accepted, handed-refused}
+use Rattle.export.specs.Spoken.{spokenOf}
 use Rattle.export.proofs.speak.Statement.{statement}
 use Rattle.export.proofs.speak.Tie as tie
 
+returns : tie.Need-returns
+unfolding spokenOf
+returns c = rw (c .enum-told .given .1)
+
+returns-2 : tie.Need-returns-2
+unfolding spokenOf
+returns-2 c = rw (c .before .before .answer .given .1, c .number .ensures)
+
 pub speak-spec : {M : Type 1} → statement M
-speak-spec =
-    tie.close
-    (tie.spec
-    (λ c. search needs) (λ c. search needs) (λ c κs. search needs)
-    (λ c. handed-accepted _ _ (c .before .answer .given .1))
-    (λ c records h. handed-refused _ _ _ _ (c .before .before .answer2 .given .1) (c .number .ensures) records))
+speak-spec = tie.close (tie.spec (λ c. search needs) (λ c. search needs) (λ c κs. search needs) returns returns-2)

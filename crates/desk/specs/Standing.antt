@@ -1,0 +1,35 @@
+-- The desk's session and reply, in the paper's words.
+use Prim.Native.Nat.{ℕ}
+use mathlib.Core.Bool.{Bool, true, false, _&&_}
+use mathlib.Core.List.{List}
+use lib.Dec.{leb}
+use lib.ListN.{length}
+use Rattle.paper.specs.declared.rules.Rules.{Rules}
+use Rattle.paper.specs.declared.rules.Terms.{Terms}
+use Rattle.paper.specs.Answers.{said}
+use Rattle.paper.specs.Fields.{field, identifierField}
+use Rattle.paper.specs.Sessions as paper
+use Rattle.paper.specs.Sessions.{keyOf}
+use Rattle.desk.specs.declared.Session.{Session}
+use Rattle.desk.specs.declared.Reply.{Reply}
+
+-- its date and currency, and with them the roster
+abbrev pub termsOf : Session → Terms
+termsOf s = record { date = s .date; currency = s .currency }
+
+abbrev pub rulesOf : Session → Rules
+rulesOf s = record { date = s .date; currency = s .currency; roster = s .roster }
+
+abbrev pub standing : Session → paper.Session
+standing s = record { rules = rulesOf s; cells = s .cells; used = s .used }
+
+abbrev pub heard : Reply → paper.Reply
+heard r = record { answer = said (r .answer); session = standing (r .session) }
+
+-- whether a file has an origin and an identifier to make a key of
+unfoldable pub keyed : List ℕ → Bool
+keyed file = leb 94 (length file) && identifierField (field file 34 34)
+
+abbrev pub keyIf : Bool → List ℕ → ℕ
+keyIf true file = keyOf file
+keyIf false file = 0

@@ -1,0 +1,168 @@
+// The desk: a session of one date, one currency and a roster of entities, and the jobs that take one.
+ghost use mathlib.Core.Path.{_≡_};
+ghost use mathlib.Core.Bool.{true};
+ghost use mathlib.Core.List.{[]};
+ghost use Rattle.paper.specs.declared.rules.Currency.the-variants.{Pesos};
+ghost use Rattle.paper.specs.Answers.{said, refused, numberOf};
+ghost use Rattle.paper.specs.Fields.{every, within};
+ghost use Rattle.paper.specs.Reading.{reading};
+ghost use Rattle.paper.specs.Sessions.{listed, newSession, opening, presenting, cellOf};
+ghost use Rattle.desk.specs.Standing.{termsOf, rulesOf, standing, heard};
+ghost use Rattle.desk.specs.Calls.{Reachable};
+use field::date;
+use paper::answer::Answer;
+use paper::answer::Fault;
+use paper::ledger::Cell;
+use paper::rules::Currency;
+use paper::rules::Terms;
+use reading::Reading;
+use state::State;
+
+mod answers;
+mod key;
+mod roster;
+
+pub struct Session {
+    date: u64,
+    currency: Currency,
+    // whether an entity number is on the roster
+    roster: [bool; Session::ROSTER],
+    // what each entity holds
+    cells: [Cell; Session::ROSTER],
+    // whether an identifier was accepted from an origin
+    used: [bool; key::KEYS],
+}
+
+// The session that a job hands back, with its answer.
+pub struct Reply {
+    pub answer: Answer,
+    pub session: Session,
+}
+
+// The list may be in any order, with repeats, or empty.
+fn marks(entities: &[u64]) -> [bool; Session::ROSTER]
+    requires { ⌜ every (within 1 499) (now entities) ≡ true ⌝ }
+    ensures { λ r. ⌜ r ≡ listed 500 0 (now (entities .entry)) ⌝ }
+{
+    let mut roster = [false; Session::ROSTER];
+    let mut i: usize = 0;
+    while i < entities.len() {
+        let entity = entities[i] as usize;
+        roster[entity] = true;
+        i += 1;
+    }
+    roster
+}
+
+// A new session holds zeros.
+fn new(date: u64, currency: Currency, entities: &[u64]) -> Session
+    requires { ⌜ every (within 1 499) (now entities) ≡ true ⌝ }
+    ensures { λ r. ⌜ standing r ≡ newSession date currency (now (entities .entry)) ⌝ }
+{
+    let roster = marks(entities);
+    let zero = Cell::ZERO;
+    let cells = [zero; Session::ROSTER];
+    let used = [false; key::KEYS];
+    Session {
+        date,
+        currency,
+        roster,
+        cells,
+        used,
+    }
+}
+
+// A refused opening returns a session of 000101, pesos, empty roster.
+fn not_opened(fault: Fault) -> Reply
+    ensures { λ r. ⌜ heard r ≡ record { answer = refused (numberOf fault) 0; session = newSession 101 Pesos [] } ⌝ }
+{
+    let nobody: [u64; 0] = [];
+    Reply {
+        answer: Answer::Refused(fault, 0),
+        session: new(Session::FIRST_DATE, Currency::Pesos, &nobody),
+    }
+}
+
+impl Session {
+    // Bytes of a record.
+    pub const RECORD: usize = State::RECORD;
+    // Bytes of a file, at most.
+    pub const FILE_LIMIT: usize = Reading::LONGEST as usize;
+    // Entity numbers are below this.
+    pub const ROSTER: usize = 500;
+    // 000101
+    pub const FIRST_DATE: u64 = 101;
+
+    // A bad date is 75; then a number not 1 to 499 is 208.
+    pub fn open(date: u64, currency: Currency, entities: &[u64]) -> Reply
+        ensures { λ r. ⌜ (heard r ≡ opening date currency (now (entities .entry))) × Reachable (r .session) ⌝ }
+    {
+        if !date::is_date(date) {
+            return not_opened(Fault::Date);
+        }
+        if !roster::all_entities(entities) {
+            return not_opened(Fault::Entity);
+        }
+        Reply {
+            answer: Answer::Accepted,
+            session: new(date, currency, entities),
+        }
+    }
+
+    fn terms(self) -> Terms
+        ensures { λ r. ⌜ r ≡ termsOf self ⌝ }
+    {
+        let currency = self.currency;
+        Terms {
+            date: self.date,
+            currency,
+        }
+    }
+
+    pub fn read(self, file: &[u8]) -> Answer
+        ensures { λ r. ⌜ said r ≡ reading (rulesOf self) (now (file .entry)) ⌝ }
+    {
+        let terms = self.terms();
+        answers::of_reading(reading::read(terms, &self.roster, file))
+    }
+
+    // The reading's refusals, then 209. A refusal leaves the session as it is and uses up no identifier.
+    pub fn present(self, file: &[u8]) -> Reply
+        requires { ⌜ Reachable self ⌝ }
+        ensures { λ r. ⌜ (heard r ≡ presenting (standing self) (now (file .entry))) × Reachable (r .session) ⌝ }
+    {
+        let mut session = self;
+        let terms = session.terms();
+        let reading = reading::read(terms, &session.roster, file);
+        let key = key::key(file);
+        let used = session.used[key];
+        let read = answers::of_reading(reading);
+        let new = answers::unless_used(used);
+        let answer = answers::first(read, new);
+        let Answer::Accepted = answer else {
+            return Reply { answer, session };
+        };
+        let cells = session.cells;
+        session.cells = ledger::post(cells, file, file.len() / Session::RECORD);
+        session.used[key] = true;
+        Reply { answer, session }
+    }
+
+    // What the session holds for an entity; nothing for a number that is none.
+    pub fn cell(self, entity: u64) -> Cell
+        ensures { λ r. ⌜ r ≡ cellOf (standing self) entity ⌝ }
+    {
+        if roster::is_entity(entity) {
+            let e = entity as usize;
+            return self.cells[e];
+        }
+        Cell::ZERO
+    }
+
+    // The same of every entity number, to go through them.
+    pub fn cells(self) -> [Cell; Session::ROSTER]
+        ensures { λ r. ⌜ r ≡ standing self .cells ⌝ }
+    {
+        self.cells
+    }
+}

@@ -1,0 +1,28 @@
+// The list of entity numbers that a session is opened with: any order, repeats, possibly none.
+ghost use mathlib.Core.Path.{_≡_};
+ghost use Rattle.paper.specs.Fields.{every, within};
+use crate::Session;
+use field::number;
+
+// Entity numbers, from and to.
+const FIRST: u64 = 1;
+
+const LAST: u64 = Session::ROSTER as u64 - 1;
+
+pub fn is_entity(n: u64) -> bool
+    ensures { λ r. ⌜ r ≡ within 1 499 n ⌝ }
+{
+    number::within(FIRST, LAST, n)
+}
+
+pub fn all_entities(entities: &[u64]) -> bool
+    ensures { λ r. ⌜ r ≡ every (within 1 499) (now (entities .entry)) ⌝ }
+{
+    let mut good = true;
+    let mut i: usize = 0;
+    while i < entities.len() {
+        good = good & is_entity(entities[i]);
+        i += 1;
+    }
+    good
+}

@@ -1,0 +1,61 @@
+-- What the program takes from its input.
+use Prim.Native.Nat.{ℕ, suc, _+_, _≤_, _<_}
+use mathlib.Core.Bool.{true, false}
+use mathlib.Core.List.{List, _∷_, [], _++_}
+use mathlib.Core.Path.{_≡_, sym, ap, _∙_}
+use native.Mathlib.Numerals.{add-one}
+use native.Mathlib.Omega.{arith}
+use borrow.Author.Tests.{le-leb, lt-leb}
+use lib.ListN.{length, take, drop, set}
+use lib.Seq.{take-suc-set, take-all, take-take}
+use Rattle.paper.specs.declared.rules.Currency.the-variants.{Pesos, Dollars}
+use Rattle.paper.specs.Fields.{field, within, number}
+use Rattle.paper.specs.Dates.{dateField}
+use Rattle.paper.specs.Entities.{entityValue, ofCurrency}
+use Rattle.paper.specs.Listing.{hasHeader, dateIn, currencyIf, currencyIn, numbersTo}
+
+module _ (file : List ℕ) where
+  pub no-date : length file < 94 → 101 ≡ dateIn file
+  unfolding dateIn hasHeader
+  no-date h = rw (lt-leb 94 (length file) h)
+
+  pub bad-date : 94 ≤ length file → dateField (field file 24 29) ≡ false → 101 ≡ dateIn file
+  unfolding dateIn hasHeader
+  bad-date h d = rw (le-leb 94 (length file) h, d)
+
+  pub its-date : 94 ≤ length file → dateField (field file 24 29) ≡ true → number (field file 24 29) ≡ dateIn file
+  unfolding dateIn hasHeader
+  its-date h d = rw (le-leb 94 (length file) h, d)
+
+  pub no-currency : length file < 94 → Pesos ≡ currencyIn file
+  unfolding currencyIn currencyIf hasHeader
+  no-currency h = rw (lt-leb 94 (length file) h)
+
+  -- the four digits of an entity field are 15-18
+  in-15-18 : ofCurrency Dollars (field file 15 22) ≡ within 501 999 (number (field file 15 18))
+  unfolding ofCurrency entityValue
+  in-15-18 = ap (λ (f : List ℕ). within 501 999 (number f)) (take-take 4 8 (drop 14 file) (omega arith))
+
+  pub in-dollars : 94 ≤ length file → ofCurrency Dollars (field file 15 22) ≡ true → Dollars ≡ currencyIn file
+  unfolding currencyIn currencyIf hasHeader
+  in-dollars h d = rw (le-leb 94 (length file) h, sym in-15-18 ∙ d)
+
+  pub in-pesos : 94 ≤ length file → ofCurrency Dollars (field file 15 22) ≡ false → Pesos ≡ currencyIn file
+  unfolding currencyIn currencyIf hasHeader
+  in-pesos h d = rw (le-leb 94 (length file) h, sym in-15-18 ∙ d)
+
+-- the first i of 499 numbers are written
+abbrev pub Numbered : List ℕ → ℕ → Type 0
+Numbered entities i = (i ≤ 499) × (length entities ≡ 499) × (take i entities ≡ numbersTo i)
+
+module _ (entities : List ℕ) (i : ℕ) (k : Numbered entities i) where
+  pub number-turn : i < 499 → take (i + 1) (set entities i (i + 1)) ≡ numbersTo (i + 1)
+  unfolding numbersTo
+  number-turn h =
+      let e = add-one i in
+      ap (λ (n : ℕ). take n (set entities i n)) e ∙ (take-suc-set entities i (suc i) (omega (arith, k .1)) ∙ (ap (λ (l : List ℕ). l ++ suc i ∷ []) (k .2) ∙ ap numbersTo (sym e)))
+
+  pub number-end : 499 ≤ i → entities ≡ numbersTo 499
+  number-end h =
+      let e : i ≡ 499 = omega (arith, k .0) in
+      sym (take-all i entities (omega (arith, k .1))) ∙ (k .2 ∙ ap numbersTo e)

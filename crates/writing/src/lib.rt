@@ -1,0 +1,89 @@
+// Texts and numbers put into a lent buffer.
+ghost use mathlib.Core.Path.{_≡_};
+ghost use Prim.Native.Nat.{_+_, _*_, _^_, _≤_};
+ghost use lib.ListN.{length};
+ghost use lib.IntN.{natAbs};
+ghost use Rattle.paper.specs.Writing.{spelled};
+ghost use Rattle.paper.specs.Listing.{width, decimal, signedDecimal};
+ghost use Rattle.writing.specs.Laid.{laid};
+
+// A text over a part of its length.
+pub fn copy(part: &mut [u8], text: &[u8])
+    requires { ⌜ length (now part) ≡ length (now text) ⌝ }
+    ensures { λ _. ⌜ now (part .exit) ≡ now (text .entry) ⌝ }
+{
+    let mut i: usize = 0;
+    while i < text.len() {
+        part[i] = text[i];
+        i += 1;
+    }
+}
+
+// The last digits of a number, as many as the part has bytes.
+pub fn digits(part: &mut [u8], value: u64)
+    ensures { λ _. ⌜ now (part .exit) ≡ spelled (length (now (part .entry))) value ⌝ }
+{
+    let mut rest = value;
+    let mut i = part.len();
+    while 0 < i {
+        i -= 1;
+        part[i] = b'0' + (rest % 10) as u8;
+        rest = rest / 10;
+    }
+}
+
+// Each of the following writes from index `at` on, and hands back the index after what it wrote.
+pub fn text(out: &mut [u8], at: usize, text: &[u8]) -> usize
+    requires { ⌜ at + length (now text) ≤ length (now out) ⌝ }
+    ensures { λ r. ⌜ (r ≡ at + length (now (text .entry))) × (now (out .exit) ≡ laid at (now (text .entry)) (now (out .entry))) ⌝ }
+{
+    let end = at + text.len();
+    copy(&mut out[at..end], text);
+    end
+}
+
+// How many digits a number needs.
+fn width(n: u64) -> usize
+    ensures { λ r. ⌜ (r ≡ width n) × (r ≤ 20) ⌝ }
+{
+    let mut rest = n;
+    let mut count: usize = 1;
+    while 10 <= rest {
+        rest = rest / 10;
+        count += 1;
+    }
+    count
+}
+
+pub fn number(out: &mut [u8], at: usize, n: u64) -> usize
+    requires { ⌜ at + length (decimal n) ≤ length (now out) ⌝ }
+    ensures { λ r. ⌜ (r ≡ at + length (decimal n)) × (now (out .exit) ≡ laid at (decimal n) (now (out .entry))) ⌝ }
+{
+    let end = at + width(n);
+    digits(&mut out[at..end], n);
+    end
+}
+
+// A number without its sign.
+fn size(n: i64) -> u64
+    requires { ⌜ natAbs n ≤ 4 * 10 ^ 18 ⌝ }
+    ensures { λ r. ⌜ r ≡ natAbs n ⌝ }
+{
+    if n < 0 {
+        let opposite = 0 - n;
+        return opposite as u64;
+    }
+    n as u64
+}
+
+pub fn signed(out: &mut [u8], at: usize, n: i64) -> usize
+    requires { ⌜ natAbs n ≤ 4 * 10 ^ 18 ⌝ }
+    requires { ⌜ at + length (signedDecimal n) ≤ length (now out) ⌝ }
+    ensures { λ r. ⌜ (r ≡ at + length (signedDecimal n)) × (now (out .exit) ≡ laid at (signedDecimal n) (now (out .entry))) ⌝ }
+{
+    if n < 0 {
+        let past = text(out, at, b"-");
+        return number(out, past, size(n));
+    }
+    number(out, at, size(n))
+}
