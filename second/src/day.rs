@@ -1,7 +1,10 @@
 //! A day at the desk: an opening, and the files presented one after another.
 
+use crate::listing::positions;
 use crate::session::CELLS;
 use crate::{Cell, Currency, Refusal, Session};
+
+type Answer = Result<(), Refusal>;
 
 #[derive(Clone, Debug)]
 pub struct Opening {
@@ -21,8 +24,8 @@ pub struct Day {
 /// Everything that a day leaves behind.
 #[derive(Clone, Debug, PartialEq, Eq)]
 pub struct Outcome {
-    pub opening: Result<(), Refusal>,
-    pub answers: Vec<Result<(), Refusal>>,
+    pub opening: Answer,
+    pub answers: Vec<Answer>,
     /// By entity number, at the end of the day.
     pub cells: [Cell; CELLS],
 }
@@ -67,8 +70,23 @@ impl Day {
         parts.map(|(&begin, &end)| &self.bytes[begin as usize..end as usize])
     }
 
-    /// A refused opening returns a session too, and the files are presented to that.
     pub fn run(&self) -> Outcome {
+        let (opening, answers, session) = self.close();
+        Outcome {
+            opening,
+            answers,
+            cells: *session.cells(),
+        }
+    }
+
+    /// The listing of the session at the end of the day.
+    pub fn listing(&self) -> Vec<u8> {
+        let (_, _, session) = self.close();
+        positions(&session).into_bytes()
+    }
+
+    /// A refused opening returns a session too, and the files are presented to that.
+    fn close(&self) -> (Answer, Vec<Answer>, Session) {
         let Opening {
             date,
             currency,
@@ -76,10 +94,6 @@ impl Day {
         } = self.opening;
         let (opening, mut session) = Session::open(date, currency, entities);
         let answers = self.files().map(|file| session.present(file)).collect();
-        Outcome {
-            opening,
-            answers,
-            cells: *session.cells(),
-        }
+        (opening, answers, session)
     }
 }

@@ -44,7 +44,8 @@ fn currency(input: &[u8]) -> Currency {
     }
 }
 
-fn positions(session: &Session) -> String {
+/// The lines of a session, however many files it has seen.
+pub fn positions(session: &Session) -> String {
     let mut text = String::from("ENTITY SENT RECEIVED NET\n");
     let mut sum = Cell::default();
     for (entity, cell) in session.cells().iter().enumerate() {

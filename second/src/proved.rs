@@ -40,6 +40,15 @@ unsafe extern "C" {
         received: &mut [u64; 500],
     ) -> Said;
 
+    fn shaydhoqel_day_listing(
+        date: u64,
+        dollars: bool,
+        entities: &[u64],
+        ends: &[u64],
+        files: &[u8],
+        out: &mut [u8; LISTING],
+    ) -> u64;
+
     fn shaydhoqel_listing(input: &[u8], out: &mut [u8; LISTING]) -> u64;
 }
 
@@ -87,11 +96,32 @@ pub fn day(day: &Day) -> Outcome {
     }
 }
 
-/// The listing, or what is wrong with the way it was handed over.
+/// The listing of the session at the end of a day.
+pub fn day_listing(day: &Day) -> Result<Vec<u8>, String> {
+    let mut out = [JUNK_BYTE; LISTING];
+    // SAFETY: the library reads what it is lent and writes the buffer, for the time of the call.
+    let written = unsafe {
+        shaydhoqel_day_listing(
+            day.opening.date,
+            day.opening.currency == Currency::Dollars,
+            &day.opening.entities,
+            day.ends(),
+            day.bytes(),
+            &mut out,
+        )
+    };
+    handed_over(&out, written)
+}
+
 pub fn listing(input: &[u8]) -> Result<Vec<u8>, String> {
     let mut out = [JUNK_BYTE; LISTING];
     // SAFETY: the library reads the input and writes the buffer, for the time of the call.
     let written = unsafe { shaydhoqel_listing(input, &mut out) };
+    handed_over(&out, written)
+}
+
+/// The text in a buffer, or what is wrong with the way it was handed over.
+fn handed_over(out: &[u8; LISTING], written: u64) -> Result<Vec<u8>, String> {
     let split = out.split_at_checked(place(written));
     let (text, rest) = split.ok_or_else(|| format!("said that it wrote {written} bytes"))?;
     match rest.iter().position(|&byte| byte != JUNK_BYTE) {

@@ -2,11 +2,13 @@
 use Prim.Native.Nat.{ℕ}
 use Prim.Native.String.{String}
 use mathlib.Core.List.{List, [], _∷_}
-use lib.IntN.{pos}
+use lib.IntN.{pos, negℤ}
 use lib.ListN.{replicate}
+use Rattle.paper.specs.declared.rules.Currency.the-variants.{Pesos}
+use Rattle.paper.specs.Sessions.{Session, opening, presenting}
 use Rattle.paper.specs.CaseL.{lines, caseL, empty, put}
 use Rattle.paper.specs.Claims.{prints, holds, Row, case}
-use Rattle.paper.specs.Marked.{afterL, cell}
+use Rattle.paper.specs.Marked.{cell}
 
 abbrev heading : String
 heading = "ENTITY SENT RECEIVED NET"
@@ -30,6 +32,12 @@ dollarsL =
 abbrev toItself : List ℕ
 toItself = put 2 4 "0401" (put 4 11 "0008040003" (put 9 22 "0012050004" caseL))
 
+-- L with its orders to 1 and to 499, presented
+abbrev afterEnds : Session
+afterEnds =
+    (presenting ((opening 250630 Pesos (499 ∷ 401 ∷ 403 ∷ 1 ∷ [])) .session)
+    (put 2 4 "0001" (put 3 4 "0499" (put 4 11 "0005000003" (put 9 22 "0009010004" caseL))))) .session
+
 abbrev pub printed : List Row
 printed =
     case 36 (prints dollarsL (heading ∷ "401 2 1 60000" ∷ "402 0 1 -12500" ∷ "403 1 1 -47500" ∷ "SUM 3 3 0" ∷ [])) ∷
@@ -42,6 +50,6 @@ printed =
     case 36 (prints (put 0 15 " 901" empty) ("REFUSED 17 AT 0" ∷ [])) ∷
     case 36 (prints [] ("REFUSED 201 AT 0" ∷ [])) ∷
     case 36 (prints (replicate 65425 32) ("REFUSED 201 AT 0" ∷ [])) ∷
-    case 37 (holds afterL (0 ∷ 1 ∷ 401 ∷ 499 ∷ 500 ∷ 901 ∷ [])
-    (cell (pos 0) 0 0 ∷ cell (pos 0) 0 0 ∷ cell (pos 60000) 2 1 ∷ cell (pos 0) 0 0 ∷ cell (pos 0) 0 0 ∷ cell (pos 0) 0 0 ∷ [])) ∷
+    case 37 (holds afterEnds (0 ∷ 1 ∷ 401 ∷ 499 ∷ 500 ∷ 901 ∷ [])
+    (cell (pos 0) 0 0 ∷ cell (negℤ (pos 12500)) 0 1 ∷ cell (pos 60000) 2 1 ∷ cell (negℤ (pos 40000)) 0 1 ∷ cell (pos 0) 0 0 ∷ cell (pos 0) 0 0 ∷ [])) ∷
     []

@@ -52,7 +52,9 @@ closing opened t = record {
 }
 
 -- of an opening, the ends of the files, their bytes, and what was in the buffer for the answers
+unfoldable pub turnsOf : ℕ → Currency → List ℕ → List ℕ → List ℕ → List ℕ → Turns
+turnsOf date currency entities ends files answers = turnsFrom 0 0 ends files record { session = opening date currency entities .session; answers = answers }
+
 unfoldable pub dayOf : ℕ → Currency → List ℕ → List ℕ → List ℕ → List ℕ → Day
 dayOf date currency entities ends files answers =
-    let reply = opening date currency entities in
-    closing (spokenOf 0 (reply .answer)) (turnsFrom 0 0 ends files record { session = reply .session; answers = answers })
+    closing (spokenOf 0 (opening date currency entities .answer)) (turnsOf date currency entities ends files answers)

@@ -1,8 +1,5 @@
 -- What is handed over the boundary.
 use Prim.Native.Nat.{ℕ}
-use mathlib.Core.Bool.{Bool, true, false}
-use Rattle.paper.specs.declared.rules.Currency.{Currency}
-use Rattle.paper.specs.declared.rules.Currency.the-variants.{Pesos, Dollars}
 use Rattle.paper.specs.Answers.{Said, accepted, refused}
 use Rattle.export.specs.declared.Spoken.{Spoken}
 
@@ -10,7 +7,3 @@ use Rattle.export.specs.declared.Spoken.{Spoken}
 unfoldable pub spokenOf : ℕ → Said → Spoken
 spokenOf records accepted = record { number = 0; place = records }
 spokenOf records (refused n place) = record { number = n; place = place }
-
-abbrev pub currencyOf : Bool → Currency
-currencyOf true = Dollars
-currencyOf false = Pesos

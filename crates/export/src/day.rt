@@ -1,16 +1,20 @@
 // A whole day: an opening, and files presented in turn.
 ghost use mathlib.Core.Path.{_≡_};
-ghost use mathlib.Core.List.{map};
+ghost use mathlib.Core.List.{[], map};
 ghost use Prim.Native.Nat.{min};
 ghost use lib.ListN.{length};
+ghost use Rattle.paper.specs.Listing.{currencyIf, listing};
+ghost use Rattle.listing.specs.Room.{Written};
 ghost use Rattle.desk.specs.Standing.{standing};
 ghost use Rattle.desk.specs.Calls.{Reachable};
-ghost use Rattle.export.specs.Spoken.{currencyOf};
-ghost use Rattle.export.specs.Day.{between, handed, turnsFrom, dayOf};
+ghost use Rattle.export.specs.Day.{between, handed, turnsFrom, turnsOf, dayOf};
 use crate::Spoken;
 use crate::currency;
 use crate::speak;
+use desk::Reply;
 use desk::Session;
+use listing::lines::Listing;
+use paper::answer::Answer;
 use paper::ledger::Cell;
 
 // Opening and presenting say no number of records.
@@ -47,8 +51,8 @@ fn hand_answer(i: usize, spoken: Spoken, answers: &mut [u64])
 // The files in turn, each answer handed over.
 fn present_all(session: Session, ends: &[u64], files: &[u8], answers: &mut [u64]) -> Session
     requires { ⌜ Reachable session ⌝ }
-    ensures { λ r. ⌜ turnsFrom 0 0 (now (ends .entry)) (now (files .entry)) record { session = standing session; answers = now (answers .entry) }
-        ≡ record { session = standing r; answers = now (answers .exit) } ⌝ }
+    ensures { λ r. ⌜ (turnsFrom 0 0 (now (ends .entry)) (now (files .entry)) record { session = standing session; answers = now (answers .entry) }
+        ≡ record { session = standing r; answers = now (answers .exit) }) × Reachable r ⌝ }
 {
     let mut after = session;
     let mut from: usize = 0;
@@ -97,7 +101,7 @@ pub extern "C" fn shaydhoqel_day(
     sent: &mut [u64; 500],
     received: &mut [u64; 500],
 ) -> Spoken
-    ensures { λ r. ⌜ dayOf date (currencyOf dollars) (now (entities .entry)) (now (ends .entry)) (now (files .entry)) (now (answers .entry)) ≡ record {
+    ensures { λ r. ⌜ dayOf date (currencyIf dollars) (now (entities .entry)) (now (ends .entry)) (now (files .entry)) (now (answers .entry)) ≡ record {
       opened = r;
       answers = now (answers .exit);
       positions = now (positions .exit);
@@ -111,4 +115,28 @@ pub extern "C" fn shaydhoqel_day(
     hand_cells(closed.cells(), positions, sent, received);
     let answer = opened.answer;
     speak(NO_RECORDS, answer)
+}
+
+// The listing of the session at the end of such a day, whatever the last answer was, and how many bytes that is.
+#[no_mangle]
+pub extern "C" fn shaydhoqel_day_listing(
+    date: u64,
+    dollars: bool,
+    entities: &[u64],
+    ends: &[u64],
+    files: &[u8],
+    out: &mut [u8; Listing::ROOM],
+) -> u64
+    ensures { λ r. ⌜ Written (listing (turnsOf date (currencyIf dollars) (now (entities .entry)) (now (ends .entry)) (now (files .entry)) [] .session .cells))
+        r (now (out .entry)) (now (out .exit)) ⌝ }
+{
+    let opened = Session::open(date, currency(dollars), entities);
+    let session = opened.session;
+    let mut unasked: [u64; 0] = [];
+    let closed = present_all(session, ends, files, &mut unasked);
+    let reply = Reply {
+        answer: Answer::Accepted,
+        session: closed,
+    };
+    listing::print(reply, out) as u64
 }

@@ -4,9 +4,9 @@ ghost use Prim.Native.Nat.{_/_};
 ghost use lib.ListN.{length};
 ghost use Rattle.paper.specs.Answers.{said};
 ghost use Rattle.paper.specs.Reading.{reading};
-ghost use Rattle.paper.specs.Listing.{positionsOf};
+ghost use Rattle.paper.specs.Listing.{currencyIf, positionsOf};
 ghost use Rattle.listing.specs.Room.{Written};
-ghost use Rattle.export.specs.Spoken.{spokenOf, currencyOf};
+ghost use Rattle.export.specs.Spoken.{spokenOf};
 use listing::lines::Listing;
 use paper::answer::Answer;
 use paper::rules::Currency;
@@ -23,7 +23,7 @@ pub struct Spoken {
 }
 
 fn currency(dollars: bool) -> Currency
-    ensures { λ r. ⌜ r ≡ currencyOf dollars ⌝ }
+    ensures { λ r. ⌜ r ≡ currencyIf dollars ⌝ }
 {
     if dollars {
         return Currency::Dollars;
@@ -54,7 +54,7 @@ pub extern "C" fn shaydhoqel_read(
     roster: &[bool; 500],
     file: &[u8],
 ) -> Spoken
-    ensures { λ r. ⌜ r ≡ spokenOf (length (now (file .entry)) / 94) (reading record { date = date; currency = currencyOf dollars; roster = now (roster .entry) } (now (file .entry))) ⌝ }
+    ensures { λ r. ⌜ r ≡ spokenOf (length (now (file .entry)) / 94) (reading record { date = date; currency = currencyIf dollars; roster = now (roster .entry) } (now (file .entry))) ⌝ }
 {
     let terms = Terms {
         date: date,

@@ -12,7 +12,7 @@ use Rattle.paper.specs.declared.rules.Currency.the-variants.{Pesos, Dollars}
 use Rattle.paper.specs.Fields.{field, within, number}
 use Rattle.paper.specs.Dates.{dateField}
 use Rattle.paper.specs.Entities.{entityValue, ofCurrency}
-use Rattle.paper.specs.Listing.{hasHeader, dateIn, currencyIf, currencyIn, numbersTo}
+use Rattle.paper.specs.Listing.{hasHeader, dateIn, currencyIn, numbersTo}
 
 module _ (file : List ℕ) where
   pub no-date : length file < 94 → 101 ≡ dateIn file
@@ -28,7 +28,7 @@ module _ (file : List ℕ) where
   its-date h d = rw (le-leb 94 (length file) h, d)
 
   pub no-currency : length file < 94 → Pesos ≡ currencyIn file
-  unfolding currencyIn currencyIf hasHeader
+  unfolding currencyIn hasHeader
   no-currency h = rw (lt-leb 94 (length file) h)
 
   -- the four digits of an entity field are 15-18
@@ -37,11 +37,11 @@ module _ (file : List ℕ) where
   in-15-18 = ap (λ (f : List ℕ). within 501 999 (number f)) (take-take 4 8 (drop 14 file) (omega arith))
 
   pub in-dollars : 94 ≤ length file → ofCurrency Dollars (field file 15 22) ≡ true → Dollars ≡ currencyIn file
-  unfolding currencyIn currencyIf hasHeader
+  unfolding currencyIn hasHeader
   in-dollars h d = rw (le-leb 94 (length file) h, sym in-15-18 ∙ d)
 
   pub in-pesos : 94 ≤ length file → ofCurrency Dollars (field file 15 22) ≡ false → Pesos ≡ currencyIn file
-  unfolding currencyIn currencyIf hasHeader
+  unfolding currencyIn hasHeader
   in-pesos h d = rw (le-leb 94 (length file) h, sym in-15-18 ∙ d)
 
 -- the first i of 499 numbers are written

@@ -77,7 +77,8 @@ hasHeader file = leb 94 (length file)
 unfoldable pub dateIn : List ℕ → ℕ
 dateIn file = cond (hasHeader file && dateField (field file 24 29)) (number (field file 24 29)) 101
 
-unfoldable pub currencyIf : Bool → Currency
+-- whether it is dollars
+abbrev pub currencyIf : Bool → Currency
 currencyIf true = Dollars
 currencyIf false = Pesos
 

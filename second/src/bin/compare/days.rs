@@ -1,7 +1,7 @@
-//! Both programs on generated days: opening, every answer, every cell.
+//! Both programs on generated days: opening, every answer, every cell, the listing.
 
 use crate::reach::{enough, keep, reached, timed, Times};
-use second::day::Outcome;
+use second::day::{Day, Outcome};
 use second::generate::day::{generate_day, DayCase};
 use second::individual::Code;
 use second::posting::postings;
@@ -43,16 +43,35 @@ pub fn run(seed: u64, days: u64) -> bool {
             show_difference(seed, number, &case, &ours, &theirs);
             return false;
         }
+        if !same_listing(seed, number, &case.day) {
+            return false;
+        }
         if number % LEFT_EARLY == 0 && !same_on_the_way(seed, number, &case) {
             return false;
         }
         tally.count(&case, &ours);
     }
-    println!("days: no difference");
+    println!("days and their listings: no difference");
     tally.judge()
 }
 
-/// The cells after each file, not only after the last.
+/// What is printed of the session at the end of the day, however many files it has seen.
+fn same_listing(seed: u64, number: u64, day: &Day) -> bool {
+    let (ours, theirs) = (day.listing(), proved::day_listing(day));
+    let same = theirs.as_ref() == Ok(&ours);
+    if !same {
+        println!("DIFFERENCE: seed {seed}, the listing of day {number}");
+        println!("second:\n{}", ours.escape_ascii());
+        match theirs {
+            Ok(text) => println!("proved:\n{}", text.escape_ascii()),
+            Err(fault) => println!("proved: {fault}"),
+        }
+        keep(&format!("difference-{seed}-day-{number}.bin"), day.bytes());
+    }
+    same
+}
+
+/// The cells and the listing after each file, not only after the last.
 fn same_on_the_way(seed: u64, number: u64, case: &DayCase) -> bool {
     (0..case.day.ends().len()).all(|files| {
         let day = case.day.until(files);
@@ -61,7 +80,7 @@ fn same_on_the_way(seed: u64, number: u64, case: &DayCase) -> bool {
             println!("after {files} files of the day:");
             show_difference(seed, number, case, &ours, &theirs);
         }
-        ours == theirs
+        ours == theirs && same_listing(seed, number, &day)
     })
 }
 

@@ -43,8 +43,10 @@ loop-again c =
 returns : tie.Need-returns Inv-loop μ-loop
 returns c =
     let l = c .before in
-    let s = l .before .before .before .before .args in
-    l .loop .inv .2 ∙ last-turn (l .loop .i) (l .loop .from) (s .ends .now) (s .files .now) (turns (standing (l .loop .after)) (l .loop .answers)) (c .loop-test .left)
+    let s = l .before .before .before .before .args in (
+      l .loop .inv .2 ∙ last-turn (l .loop .i) (l .loop .from) (s .ends .now) (s .files .now) (turns (standing (l .loop .after)) (l .loop .answers)) (c .loop-test .left),
+      l .loop .inv .1,
+    )
 
 pub present-all-spec : {M : Type 1} → statement M
 present-all-spec =
