@@ -1,7 +1,7 @@
 //! Types 8 and 9: sums, and the controls that must repeat them.
 
-use crate::fields::{field, number};
-use crate::individual::Individual;
+use crate::fields::{field, field_mut, number, write_number};
+use crate::individual::{Code, Individual};
 use crate::refusal::{require, FORMAT};
 
 /// Control totals keep their last ten digits.
@@ -19,12 +19,16 @@ pub struct Sums {
 
 impl Sums {
     pub fn add_individual(&mut self, individual: &Individual) {
+        self.add(individual.code, individual.destination, individual.amount);
+    }
+
+    pub fn add(&mut self, code: Code, destination: u64, amount: u64) {
         self.entries += 1;
-        self.destinations += individual.destination;
-        if individual.code.is_debit() {
-            self.debits += individual.amount;
+        self.destinations += destination;
+        if code.is_debit() {
+            self.debits += amount;
         } else {
-            self.credits += individual.amount;
+            self.credits += amount;
         }
     }
 
@@ -64,6 +68,31 @@ pub fn check_file_control(
         && holds(record, 32, 43, sums.debits)
         && holds(record, 44, 55, sums.credits);
     require(agrees, FORMAT)
+}
+
+/// The control that the check above wants; its free positions are blank.
+pub fn write_batch_control(header: &[u8], sums: &Sums, record: &mut [u8]) {
+    record.fill(b' ');
+    record[0] = b'8';
+    field_mut(record, 2, 4).copy_from_slice(field(header, 2, 4));
+    write_number(field_mut(record, 5, 10), sums.entries);
+    write_number(field_mut(record, 11, 20), sums.destinations);
+    write_number(field_mut(record, 21, 32), sums.debits);
+    write_number(field_mut(record, 33, 44), sums.credits);
+    field_mut(record, 45, 54).copy_from_slice(field(header, 41, 50));
+    field_mut(record, 80, 94).copy_from_slice(field(header, 80, 94));
+}
+
+/// `records` counts this one too.
+pub fn write_file_control(batches: u64, records: u64, sums: &Sums, record: &mut [u8]) {
+    record.fill(b' ');
+    record[0] = b'9';
+    write_number(field_mut(record, 2, 7), batches);
+    write_number(field_mut(record, 8, 13), records.div_ceil(10));
+    write_number(field_mut(record, 14, 21), sums.entries);
+    write_number(field_mut(record, 22, 31), sums.destinations);
+    write_number(field_mut(record, 32, 43), sums.debits);
+    write_number(field_mut(record, 44, 55), sums.credits);
 }
 
 /// A sum with more digits than the field matches nothing that can stand in it.

@@ -13,6 +13,12 @@ pub struct Opening {
     pub entities: Vec<u64>,
 }
 
+impl Opening {
+    pub fn open(&self) -> (Answer, Session) {
+        Session::open(self.date, self.currency, &self.entities)
+    }
+}
+
 /// The files lie one behind the other, as the proved library takes them.
 #[derive(Clone, Debug)]
 pub struct Day {
@@ -87,12 +93,7 @@ impl Day {
 
     /// A refused opening returns a session too, and the files are presented to that.
     fn close(&self) -> (Answer, Vec<Answer>, Session) {
-        let Opening {
-            date,
-            currency,
-            ref entities,
-        } = self.opening;
-        let (opening, mut session) = Session::open(date, currency, entities);
+        let (opening, mut session) = self.opening.open();
         let answers = self.files().map(|file| session.present(file)).collect();
         (opening, answers, session)
     }

@@ -7,6 +7,10 @@ pub fn field(record: &[u8], from: usize, to: usize) -> &[u8] {
     &record[from - 1..to]
 }
 
+pub fn field_mut(record: &mut [u8], from: usize, to: usize) -> &mut [u8] {
+    &mut record[from - 1..to]
+}
+
 pub fn is_character(byte: u8) -> bool {
     matches!(byte, 32..=95) && !matches!(byte, 34 | 38 | 39 | 91..=94)
 }
@@ -25,6 +29,15 @@ pub fn number(field: &[u8]) -> Option<u64> {
         byte.is_ascii_digit()
             .then(|| value * 10 + u64::from(byte - b'0'))
     })
+}
+
+/// The number's last digits, as many as the field takes.
+pub fn write_number(field: &mut [u8], value: u64) {
+    let mut rest = value;
+    for byte in field.iter_mut().rev() {
+        *byte = b'0' + (rest % 10) as u8;
+        rest /= 10;
+    }
 }
 
 /// AAMMDD, when it is a day of the years 2000 to 2099.

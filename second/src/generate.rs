@@ -1,14 +1,17 @@
 //! Good and damaged files, each made from a seed and its number alone.
 
+pub mod addressed;
 mod damage;
 pub mod day;
 mod desk;
 mod draft;
+pub mod extract;
 mod faults;
 pub mod good;
 mod large;
 mod lengths;
 pub mod listing;
+pub mod meant;
 mod opening;
 pub mod random;
 mod session;
@@ -48,6 +51,7 @@ impl Case {
 const FLIPS: u64 = 1 << 63;
 const DAYS: u64 = 1 << 62;
 const LISTINGS: u64 = 1 << 61;
+const EXTRACTS: u64 = 1 << 60;
 
 fn refused(number: u16, place: usize) -> Answer {
     Some(Err(Refusal { number, place }))

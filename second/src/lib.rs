@@ -1,7 +1,8 @@
-//! An independent second program for document 01: so far reading, opening, presenting and the listing.
+//! An independent second program for document 01: so far reading, opening, presenting, extracting and the listing.
 
 pub mod controls;
 pub mod day;
+pub mod extract;
 pub mod fields;
 pub mod generate;
 pub mod headers;

@@ -2,7 +2,8 @@
 
 #![cfg(not(without_proved_library))]
 
-use crate::day::{Day, Outcome};
+use crate::day::{Day, Opening, Outcome};
+use crate::extract::Extracted;
 use crate::session::CELLS;
 use crate::{Cell, Currency, Refusal, Rules};
 
@@ -23,18 +24,30 @@ const JUNK: u64 = 0xa5a5_a5a5_a5a5_a5a5;
 /// Words behind the answers that nobody lent.
 const GUARD: usize = 2;
 
-// A slice passes as pointer and length, on both sides of these calls.
-#[allow(improper_ctypes)]
+/// Bytes before and behind an extract's buffer that nobody lent: more than two records.
+const GUARD_BYTES: usize = 200;
+
+// A slice is two arguments, its pointer and its length: as one argument of sixteen bytes it would go to the stack whole where one register is left.
 unsafe extern "C" {
-    fn shaydhoqel_read(date: u64, dollars: bool, roster: &[bool; 500], file: &[u8]) -> Said;
+    fn shaydhoqel_read(
+        date: u64,
+        dollars: bool,
+        roster: &[bool; 500],
+        file: *const u8,
+        file_length: usize,
+    ) -> Said;
 
     fn shaydhoqel_day(
         date: u64,
         dollars: bool,
-        entities: &[u64],
-        ends: &[u64],
-        files: &[u8],
-        answers: &mut [u64],
+        entities: *const u64,
+        entities_length: usize,
+        ends: *const u64,
+        ends_length: usize,
+        files: *const u8,
+        files_length: usize,
+        answers: *mut u64,
+        answers_length: usize,
         positions: &mut [i64; 500],
         sent: &mut [u64; 500],
         received: &mut [u64; 500],
@@ -43,19 +56,42 @@ unsafe extern "C" {
     fn shaydhoqel_day_listing(
         date: u64,
         dollars: bool,
-        entities: &[u64],
-        ends: &[u64],
-        files: &[u8],
+        entities: *const u64,
+        entities_length: usize,
+        ends: *const u64,
+        ends_length: usize,
+        files: *const u8,
+        files_length: usize,
         out: &mut [u8; LISTING],
     ) -> u64;
 
-    fn shaydhoqel_listing(input: &[u8], out: &mut [u8; LISTING]) -> u64;
+    fn shaydhoqel_listing(input: *const u8, input_length: usize, out: &mut [u8; LISTING]) -> u64;
+
+    fn shaydhoqel_extract(
+        date: u64,
+        dollars: bool,
+        entities: *const u64,
+        entities_length: usize,
+        entity: u64,
+        file: *const u8,
+        file_length: usize,
+        out: *mut u8,
+        out_length: usize,
+    ) -> Said;
 }
 
 pub fn read(rules: &Rules, file: &[u8]) -> Result<usize, Refusal> {
     let dollars = rules.currency == Currency::Dollars;
     // SAFETY: the library only reads what it is lent, for the time of the call.
-    let said = unsafe { shaydhoqel_read(rules.date, dollars, &rules.roster, file) };
+    let said = unsafe {
+        shaydhoqel_read(
+            rules.date,
+            dollars,
+            &rules.roster,
+            file.as_ptr(),
+            file.len(),
+        )
+    };
     match said.number {
         0 => Ok(place(said.place)),
         number => Err(refusal(number, said.place)),
@@ -72,10 +108,14 @@ pub fn day(day: &Day) -> Outcome {
         shaydhoqel_day(
             day.opening.date,
             day.opening.currency == Currency::Dollars,
-            &day.opening.entities,
-            day.ends(),
-            day.bytes(),
-            &mut answers[..lent],
+            day.opening.entities.as_ptr(),
+            day.opening.entities.len(),
+            day.ends().as_ptr(),
+            day.ends().len(),
+            day.bytes().as_ptr(),
+            day.bytes().len(),
+            answers.as_mut_ptr(),
+            lent,
             &mut positions,
             &mut sent,
             &mut received,
@@ -104,9 +144,12 @@ pub fn day_listing(day: &Day) -> Result<Vec<u8>, String> {
         shaydhoqel_day_listing(
             day.opening.date,
             day.opening.currency == Currency::Dollars,
-            &day.opening.entities,
-            day.ends(),
-            day.bytes(),
+            day.opening.entities.as_ptr(),
+            day.opening.entities.len(),
+            day.ends().as_ptr(),
+            day.ends().len(),
+            day.bytes().as_ptr(),
+            day.bytes().len(),
             &mut out,
         )
     };
@@ -116,8 +159,58 @@ pub fn day_listing(day: &Day) -> Result<Vec<u8>, String> {
 pub fn listing(input: &[u8]) -> Result<Vec<u8>, String> {
     let mut out = [JUNK_BYTE; LISTING];
     // SAFETY: the library reads the input and writes the buffer, for the time of the call.
-    let written = unsafe { shaydhoqel_listing(input, &mut out) };
+    let written = unsafe { shaydhoqel_listing(input.as_ptr(), input.len(), &mut out) };
     handed_over(&out, written)
+}
+
+/// The call alone, for measuring: opens a session and extracts.
+pub fn extract(
+    opening: &Opening,
+    entity: u64,
+    file: &[u8],
+    out: &mut [u8],
+) -> Result<usize, Refusal> {
+    let dollars = opening.currency == Currency::Dollars;
+    // SAFETY: the library reads what it is lent and writes the buffer, for the time of the call.
+    let said = unsafe {
+        shaydhoqel_extract(
+            opening.date,
+            dollars,
+            opening.entities.as_ptr(),
+            opening.entities.len(),
+            entity,
+            file.as_ptr(),
+            file.len(),
+            out.as_mut_ptr(),
+            out.len(),
+        )
+    };
+    match said.number {
+        0 => Ok(place(said.place)),
+        number => Err(refusal(number, said.place)),
+    }
+}
+
+/// The answer and the buffer afterwards, or what was written outside of it.
+pub fn extracted(
+    opening: &Opening,
+    entity: u64,
+    file: &[u8],
+    buffer: &[u8],
+) -> Result<Extracted, String> {
+    let guard = [JUNK_BYTE; GUARD_BYTES];
+    let mut bytes = [&guard, buffer, &guard].concat();
+    let (before, lent_and_behind) = bytes.split_at_mut(GUARD_BYTES);
+    let (lent, behind) = lent_and_behind.split_at_mut(buffer.len());
+    let answer = extract(opening, entity, file, lent);
+    if before != guard {
+        return Err(format!("answered {answer:?}, wrote before the buffer"));
+    }
+    if behind != guard {
+        return Err(format!("answered {answer:?}, wrote behind the buffer"));
+    }
+    let buffer = lent.to_vec();
+    Ok(Extracted { answer, buffer })
 }
 
 /// The text in a buffer, or what is wrong with the way it was handed over.

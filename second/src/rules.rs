@@ -9,6 +9,16 @@ pub enum Currency {
     Dollars,
 }
 
+impl Currency {
+    /// What entity fields of this currency add to the entity's number.
+    pub fn added(self) -> u64 {
+        match self {
+            Currency::Pesos => 0,
+            Currency::Dollars => 500,
+        }
+    }
+}
+
 #[derive(Clone, Debug, PartialEq, Eq)]
 pub struct Rules {
     /// AAMMDD, as the number those digits spell.

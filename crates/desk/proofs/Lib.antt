@@ -4,3 +4,6 @@ pub mod Keys
 pub mod Replies
 pub mod Once
 pub mod Demands
+pub mod Extracts
+pub mod Sharing
+pub mod Asking

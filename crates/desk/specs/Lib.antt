@@ -1,2 +1,3 @@
 pub mod Standing
 pub mod Calls
+pub mod Extracts

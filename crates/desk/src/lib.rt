@@ -6,12 +6,14 @@ ghost use Rattle.paper.specs.declared.rules.Currency.the-variants.{Pesos};
 ghost use Rattle.paper.specs.Answers.{said, refused, numberOf};
 ghost use Rattle.paper.specs.Fields.{every, within};
 ghost use Rattle.paper.specs.Reading.{reading};
+ghost use Rattle.paper.specs.Buffers.{told, extracting};
 ghost use Rattle.paper.specs.Sessions.{listed, newSession, opening, presenting, cellOf};
 ghost use Rattle.desk.specs.Standing.{termsOf, rulesOf, standing, heard};
 ghost use Rattle.desk.specs.Calls.{Reachable};
 use field::date;
 use paper::answer::Answer;
 use paper::answer::Fault;
+use paper::answer::Output;
 use paper::ledger::Cell;
 use paper::rules::Currency;
 use paper::rules::Terms;
@@ -146,6 +148,22 @@ impl Session {
         session.cells = ledger::post(cells, file, file.len() / Session::RECORD);
         session.used[key] = true;
         Reply { answer, session }
+    }
+
+    // 208, the reading's refusals, then 206; each leaves the buffer as it was. The rest of the buffer stays.
+    pub fn extract(self, entity: u64, file: &[u8], out: &mut [u8]) -> Output
+        ensures { λ r. ⌜ told r (now (out .exit)) ≡ extracting (rulesOf self) entity (now (file .entry)) (now (out .entry)) ⌝ }
+    {
+        if !roster::is_listed(&self.roster, entity) {
+            return Output::Refused(Fault::Entity, 0);
+        }
+        let terms = self.terms();
+        let reading = reading::read(terms, &self.roster, file);
+        let Reading::Accepted(_) = reading else {
+            return answers::unwritten(reading);
+        };
+        let currency = self.currency;
+        extract::extract(currency, entity, file, out)
     }
 
     // What the session holds for an entity; nothing for a number that is none.

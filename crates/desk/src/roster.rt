@@ -1,5 +1,7 @@
 // The list of entity numbers that a session is opened with: any order, repeats, possibly none.
 ghost use mathlib.Core.Path.{_≡_};
+ghost use mathlib.Core.Bool.{false, _&&_};
+ghost use lib.ListN.{getD};
 ghost use Rattle.paper.specs.Fields.{every, within};
 use crate::Session;
 use field::number;
@@ -13,6 +15,17 @@ pub fn is_entity(n: u64) -> bool
     ensures { λ r. ⌜ r ≡ within 1 499 n ⌝ }
 {
     number::within(FIRST, LAST, n)
+}
+
+// An entity number that is on the roster.
+pub fn is_listed(roster: &[bool; Session::ROSTER], n: u64) -> bool
+    ensures { λ r. ⌜ r ≡ (within 1 499 n && getD (now (roster .entry)) n false) ⌝ }
+{
+    if is_entity(n) {
+        let e = n as usize;
+        return roster[e];
+    }
+    false
 }
 
 pub fn all_entities(entities: &[u64]) -> bool

@@ -14,6 +14,7 @@ use paper::rules::Terms;
 use reading::Reading;
 
 pub mod day;
+pub mod extract;
 
 // An answer in the paper's numbers: 0 and the number of records, or the refusal number and its place.
 #[repr(C)]

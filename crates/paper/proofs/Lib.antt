@@ -23,5 +23,9 @@ pub mod Back
 pub mod Apart
 pub mod Lent
 pub mod Numbers
-pub mod Picking
 pub mod Rebuilding
+pub mod Grouping
+pub mod Regrouping
+pub mod Carried
+pub mod Shared
+pub mod Size

@@ -2,12 +2,16 @@
 use Prim.Native.Nat.{ℕ}
 use mathlib.Core.Path.{_≡_, refl, sym, ap, _∙_}
 use mathlib.Core.Bool.{cond}
+use mathlib.Core.List.{List}
 use lib.Dec.{eqb}
 use Rattle.paper.specs.declared.answer.Fault.{Fault}
 use Rattle.paper.specs.declared.answer.Fault.the-variants.{Length, Format, Amount, Additional, Counter, Date, Reserved, Account, Reference, Information, Currency, Roster, Room, Tray, Entity, Identifier}
 use Rattle.paper.specs.declared.answer.Answer.{Answer}
 use Rattle.paper.specs.declared.answer.Answer.the-variants.{Accepted, Refused}
+use Rattle.paper.specs.declared.answer.Output.{Output}
+use Rattle.paper.specs.declared.answer.Output.the-variants.{Accepted as Wrote, Refused as Kept}
 use Rattle.paper.specs.Answers.{Said, accepted, refused, numberOf, said}
+use Rattle.paper.specs.Buffers.{Outcome, told}
 
 -- the fault of a number
 named : ℕ → Fault
@@ -52,3 +56,24 @@ answering-said (Refused f place) = ap (λ (g : Fault). Refused g place) (named-n
 -- two answers that say the same are the same
 pub said-once : (a b : Answer) → said a ≡ said b → a ≡ b
 said-once a b h = sym (answering-said a) ∙ ap answering h ∙ answering-said b
+
+-- the output that is told so
+telling : Said → ℕ → Output
+telling accepted n = Wrote n
+telling (refused m place) n = Kept (named m) place
+
+telling-told : (a : Output) (x : List ℕ) → telling (told a x .answer) (told a x .written) ≡ a
+unfolding telling
+telling-told (Wrote n) x = refl
+telling-told (Kept f place) x = ap (λ (g : Fault). Kept g place) (named-number f)
+
+told-buffer : (a : Output) (x : List ℕ) → told a x .buffer ≡ x
+told-buffer (Wrote n) x = refl
+told-buffer (Kept f place) x = refl
+
+-- two outputs that are told the same are the same, with the same buffer
+pub told-once : (a b : Output) (x y : List ℕ) → told a x ≡ told b y → (a ≡ b) × (x ≡ y)
+told-once a b x y h = (
+  sym (telling-told a x) ∙ ap (λ (o : Outcome). telling (o .answer) (o .written)) h ∙ telling-told b y,
+  sym (told-buffer a x) ∙ ap (λ (o : Outcome). o .buffer) h ∙ told-buffer b y,
+)

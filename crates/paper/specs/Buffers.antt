@@ -6,7 +6,9 @@ use mathlib.Core.List.{List, _++_}
 use lib.Dec.{leb, eqb}
 use lib.ListN.{length, drop, getD}
 use Rattle.paper.specs.declared.rules.Rules.{Rules}
-use Rattle.paper.specs.Answers.{Said, accepted, refused, andThen, require}
+use Rattle.paper.specs.declared.answer.Output.{Output}
+use Rattle.paper.specs.declared.answer.Output.the-variants.{Accepted, Refused}
+use Rattle.paper.specs.Answers.{Said, accepted, refused, numberOf, andThen, require}
 use Rattle.paper.specs.Fields.{within}
 use Rattle.paper.specs.Reading.{reading, lengthGood}
 use Rattle.paper.specs.Writing.{blanks}
@@ -18,6 +20,11 @@ pub record Outcome : Type 0 where
   pub answer : Said
   pub written : ℕ
   pub buffer : List ℕ
+
+-- what a job of the library says, with the buffer that it hands back
+abbrev pub told : Output → List ℕ → Outcome
+told (Accepted n) buffer = record { answer = accepted; written = n; buffer = buffer }
+told (Refused fault place) buffer = record { answer = refused (numberOf fault) place; written = 0; buffer = buffer }
 
 -- the first bytes are new, the rest of the buffer stays
 unfoldable pub over : List ℕ → List ℕ → List ℕ

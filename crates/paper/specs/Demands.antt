@@ -2,10 +2,11 @@
 use Prim.Native.Nat.{ℕ, zero, suc, _*_, _≤_, _^_}
 use mathlib.Core.Path.{_≡_}
 use mathlib.Core.Bool.{Bool, false, cond, _||_}
-use mathlib.Core.List.{List, [], _∷_, _++_}
+use mathlib.Core.List.{List, [], _∷_, _++_, map}
 use mathlib.Core.Logic.{_⊎_}
-use lib.Dec.{eqb}
+use lib.Dec.{T, eqb}
 use lib.IntN.{ℤ, pos, natAbs, _+ℤ_}
+use lib.ListN.{getD}
 use Rattle.paper.specs.declared.rules.Rules.{Rules}
 use Rattle.paper.specs.declared.rules.Currency.{Currency}
 use Rattle.paper.specs.declared.ledger.Cell.{Cell}
@@ -14,14 +15,14 @@ use Rattle.paper.specs.declared.record.Kind.{Kind}
 use Rattle.paper.specs.declared.record.Kind.the-variants.{FileHeader, BatchHeader, Individual, Additional, BatchControl, FileControl, Other}
 use Rattle.paper.specs.Answers.{Said, accepted, refused}
 use Rattle.paper.specs.Checks.{fine, wrong}
-use Rattle.paper.specs.Fields.{field}
+use Rattle.paper.specs.Fields.{field, within}
 use Rattle.paper.specs.Entities.{entity}
 use Rattle.paper.specs.Kinds.{kindOf}
 use Rattle.paper.specs.Reading.{State, judged, next, recordsOf}
 use Rattle.paper.specs.Postings.{Posting, postings, position, sent, received}
 use Rattle.paper.specs.Sessions.{Session, opening, presenting, originOf, identifierOf}
 use Rattle.paper.specs.Writing.{spelled, blanks}
-use Rattle.paper.specs.Extract.{Batch}
+use Rattle.paper.specs.Extract.{Item, Batch, batchesOf, itemsTo}
 use Rattle.paper.specs.Trays.{batchesAfter, individualsAfter}
 
 -- ---- exactly when
@@ -106,10 +107,59 @@ unfoldable pub identifiersFrom : ℕ → List (List ℕ) → List ℕ
 identifiersFrom origin [] = []
 identifiersFrom origin (f ∷ fs) = cond (eqb origin (originOf f)) (identifierOf f ∷ identifiersFrom origin fs) (identifiersFrom origin fs)
 
--- batches with their headers' numbers aside
-unfoldable pub numbersAside : List Batch → List Batch
-numbersAside [] = []
-numbersAside (b ∷ bs) = record { header = field (b .header) 1 87; items = b .items } ∷ numbersAside bs
+unfoldable pub batchIf : List Item → Batch → List Batch → List Batch
+batchIf [] b bs = bs
+batchIf (i ∷ is) b bs = b ∷ bs
+
+-- the batches that hold records to E, whole
+unfoldable pub batchesHolding : ℕ → List Batch → List Batch
+batchesHolding e [] = []
+batchesHolding e (b ∷ bs) = batchIf (itemsTo e (b .items)) b (batchesHolding e bs)
+
+-- two files have the same file header, and their batches that hold records to E have, in order, the same headers (numbers aside) and the same
+-- records to E with their additionals
+pub record SameTo (e : ℕ) (f g : List ℕ) : Type 0 where
+  pub fileHeader : field f 1 94 ≡ field g 1 94
+  pub headers : map (λ (b : Batch). field (b .header) 1 87) (batchesHolding e (batchesOf f))
+      ≡ map (λ (b : Batch). field (b .header) 1 87) (batchesHolding e (batchesOf g))
+  pub records : map (λ (b : Batch). itemsTo e (b .items)) (batchesHolding e (batchesOf f))
+      ≡ map (λ (b : Batch). itemsTo e (b .items)) (batchesHolding e (batchesOf g))
+
+-- ---- shared out
+
+-- the individual records of a file, in order, each with its additionals
+unfoldable pub itemsIn : List Batch → List Item
+itemsIn [] = []
+itemsIn (b ∷ bs) = b .items ++ itemsIn bs
+
+unfoldable pub itemsOf : List ℕ → List Item
+itemsOf file = itemsIn (batchesOf file)
+
+-- the records that a file carries for entities, its individual and additional ones: those of types 6 and 7, in order
+unfoldable pub carriedBy : Kind → List ℕ → List (List ℕ) → List (List ℕ)
+carriedBy FileHeader r rs = rs
+carriedBy BatchHeader r rs = rs
+carriedBy Individual r rs = r ∷ rs
+carriedBy Additional r rs = r ∷ rs
+carriedBy BatchControl r rs = rs
+carriedBy FileControl r rs = rs
+carriedBy Other r rs = rs
+
+unfoldable pub carried : List (List ℕ) → List (List ℕ)
+carried [] = []
+carried (r ∷ rs) = carriedBy (kindOf r) r (carried rs)
+
+-- the entity that an item is addressed to
+unfoldable pub addressee : Item → ℕ
+addressee i = entity (field (i .individual) 4 11)
+
+-- items dealt to entities: each in turn is the first of what its addressee, an entity on the roster, still has to get, and of nobody else's
+pub data SharedOut (roster : List Bool) : List Item → (ℕ → List Item) → Type 0 where
+  nothing-left : {hands : ℕ → List Item} → ((e : ℕ) → hands e ≡ []) → SharedOut roster [] hands
+  next-goes : {i : Item} {is : List Item} {hands later : ℕ → List Item} → T (within 1 499 (addressee i)) → T (getD roster (addressee i) false)
+      → hands (addressee i) ≡ i ∷ later (addressee i)
+      → ((e : ℕ) → (e ≡ addressee i → ⊥) → hands e ≡ later e)
+      → SharedOut roster is later → SharedOut roster (i ∷ is) hands
 
 -- ---- numbered as building numbers, free control positions blank: b batches and n individuals stand before the record
 

@@ -44,6 +44,12 @@ pub enum Answer {
     Refused(Fault, usize),
 }
 
+// The same of a job that writes into a lent buffer: acceptance says how many bytes were written.
+pub enum Output {
+    Accepted(usize),
+    Refused(Fault, usize),
+}
+
 impl Fault {
     // The paper's number.
     pub fn number(self) -> u64

@@ -6,12 +6,21 @@ use mathlib.Core.Path.{_≡_}
 use native.Mathlib.Nat.{zero-add}
 use native.Mathlib.Numerals.{add-one}
 use native.Mathlib.Omega.{arith}
-use lib.ListN.{length, getD, take, drop, set}
+use lib.ListN.{length, getD, take, drop, set, length-replicate, getD-replicate}
 use lib.Seq.{length-take-le, append-snoc, set-split, drop-at, paste-suc}
-use Rattle.paper.specs.Writing.{spelled}
+use Rattle.paper.specs.Writing.{spelled, blanks}
 
 pub copy-turn : (d s : List ℕ) (i : ℕ) → i < length d → i < length s → set (take i s ++ drop i d) i (getD s i 0) ≡ take (i + 1) s ++ drop (i + 1) d
 copy-turn d s i h k = rw add-one (rw (zero-add, zero-add) at (paste-suc d 0 s i 0 (omega arith) k))
+
+pub length-blanks : (n : ℕ) → length (blanks n) ≡ n
+unfolding blanks
+length-blanks n = length-replicate n 32
+
+-- spaces are copied, of a text of spaces
+pub blank-turn : (d : List ℕ) (i : ℕ) → i < length d → set (take i (blanks (length d)) ++ drop i d) i 32 ≡ take (i + 1) (blanks (length d)) ++ drop (i + 1) d
+unfolding blanks
+blank-turn d i h = rw (getD-replicate {A = ℕ} (length d) i 32 0 h) at (copy-turn d (blanks (length d)) i h (omega (arith, length-blanks (length d))))
 
 drop-set : (d : List ℕ) (j x : ℕ) → j < length d → drop j (set d j x) ≡ x ∷ drop (suc j) d
 drop-set d j x h = rw (set-split d j x h) (drop-at (take j d) (x ∷ drop (suc j) d) j (length-take-le j d (omega arith)))

@@ -3,9 +3,11 @@ ghost use mathlib.Core.Path.{_≡_};
 ghost use Prim.Native.Nat.{_+_, _*_, _^_, _≤_};
 ghost use lib.ListN.{length};
 ghost use lib.IntN.{natAbs};
-ghost use Rattle.paper.specs.Writing.{spelled};
+ghost use Rattle.paper.specs.Writing.{spelled, blanks};
 ghost use Rattle.paper.specs.Listing.{width, decimal, signedDecimal};
 ghost use Rattle.writing.specs.Laid.{laid};
+
+pub mod records;
 
 // A text over a part of its length.
 pub fn copy(part: &mut [u8], text: &[u8])
@@ -32,6 +34,17 @@ pub fn digits(part: &mut [u8], value: u64)
     }
 }
 
+// Spaces over a whole part.
+pub fn blanks(part: &mut [u8])
+    ensures { λ _. ⌜ now (part .exit) ≡ blanks (length (now (part .entry))) ⌝ }
+{
+    let mut i: usize = 0;
+    while i < part.len() {
+        part[i] = b' ';
+        i += 1;
+    }
+}
+
 // Each of the following writes from index `at` on, and hands back the index after what it wrote.
 pub fn text(out: &mut [u8], at: usize, text: &[u8]) -> usize
     requires { ⌜ at + length (now text) ≤ length (now out) ⌝ }
@@ -39,6 +52,26 @@ pub fn text(out: &mut [u8], at: usize, text: &[u8]) -> usize
 {
     let end = at + text.len();
     copy(&mut out[at..end], text);
+    end
+}
+
+// A number in a field of so many digits.
+pub fn field(out: &mut [u8], at: usize, width: usize, n: u64) -> usize
+    requires { ⌜ at + width ≤ length (now out) ⌝ }
+    ensures { λ r. ⌜ (r ≡ at + length (spelled width n)) × (now (out .exit) ≡ laid at (spelled width n) (now (out .entry))) ⌝ }
+{
+    let end = at + width;
+    digits(&mut out[at..end], n);
+    end
+}
+
+// A field of so many spaces.
+pub fn spaces(out: &mut [u8], at: usize, width: usize) -> usize
+    requires { ⌜ at + width ≤ length (now out) ⌝ }
+    ensures { λ r. ⌜ (r ≡ at + length (blanks width)) × (now (out .exit) ≡ laid at (blanks width) (now (out .entry))) ⌝ }
+{
+    let end = at + width;
+    blanks(&mut out[at..end]);
     end
 }
 

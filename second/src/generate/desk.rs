@@ -335,7 +335,7 @@ fn reading_of(draft: &Draft, rules: &Rules) -> Answer {
 }
 
 /// A copy with some fault that leaves the session as it is.
-fn damaged_copy(random: &mut Random, good: &Draft) -> (&'static str, Vec<u8>, Answer) {
+pub fn damaged_copy(random: &mut Random, good: &Draft) -> (&'static str, Vec<u8>, Answer) {
     loop {
         let mut draft = good.clone();
         let mut kind = "fault";

@@ -373,7 +373,7 @@ pub fn some_entities(random: &mut Random) -> Vec<usize> {
 }
 
 /// Full, partial, or only those in use; entity 0 does not exist, so its cell may hold anything.
-fn roster_with(random: &mut Random, entities: &[usize]) -> [bool; 500] {
+pub fn roster_with(random: &mut Random, entities: &[usize]) -> [bool; 500] {
     let mut roster = match random.below(3) {
         0 => [true; 500],
         1 => std::array::from_fn(|_| random.once_in(2)),

@@ -71,7 +71,7 @@ pub fn accepted(family: &'static str, opening: Opening) -> Opened {
     }
 }
 
-fn refused(family: &'static str, opening: Opening, number: u16) -> Opened {
+pub fn refused(family: &'static str, opening: Opening, number: u16) -> Opened {
     Opened {
         family,
         opening,
@@ -84,7 +84,7 @@ fn refused(family: &'static str, opening: Opening, number: u16) -> Opened {
     }
 }
 
-fn of_no_date(random: &mut Random, mut opening: Opening, family: &'static str) -> Opened {
+pub fn of_no_date(random: &mut Random, mut opening: Opening, family: &'static str) -> Opened {
     let text = *random.pick(NO_DATES);
     let spelled = text
         .iter()
@@ -107,7 +107,7 @@ fn of_no_date(random: &mut Random, mut opening: Opening, family: &'static str) -
     refused(family, opening, 75)
 }
 
-fn of_no_entity(random: &mut Random, mut opening: Opening) -> Opened {
+pub fn of_no_entity(random: &mut Random, mut opening: Opening) -> Opened {
     for _ in 0..*random.pick(&[1, 1, 2]) {
         let place = match random.below(3) {
             0 => 0,

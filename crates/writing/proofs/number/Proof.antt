@@ -1,12 +1,10 @@
-use Prim.Native.Nat.{_+_, _-_}
-use mathlib.Core.Path.{_≡_, _∙_}
 use borrow.Author.Needs.{needs}
-use borrow.Rule.Slice.PartMut.{midOf, mid-len}
 use native.Mathlib.Omega.{arith}
-use lib.ListN.{length}
-use Rattle.paper.specs.Listing.{width, decimal}
+use Rattle.paper.specs.Listing.{decimal}
+use Rattle.paper.specs.Writing.{spelled}
+use Rattle.paper.proofs.Lists.{length-spelled}
 use Rattle.writing.proofs.Decimals.{length-decimal}
-use Rattle.writing.proofs.Laying.{part-laid}
+use Rattle.writing.proofs.Laying.{part-filled}
 use Rattle.writing.proofs.number.Statement.{statement}
 use Rattle.writing.proofs.number.Tie as tie
 
@@ -16,14 +14,11 @@ part-digits-end c = omega (arith, length-decimal (c .before .before .args .n))
 returns : tie.Need-returns
 unfolding decimal
 returns c =
+    let d = c .before .before .digits in
     let w = c .before .before .before .before .width in
-    let a = c .before .before .before .before .before .before .args in
-    let end = a .at + w .result in
-    let d = length-decimal (a .n) in
-    let e : end ≡ a .at + length (decimal (a .n)) = omega arith in
-    let l : length (midOf (a .at) (end - a .at) (a .out .now)) ≡ width (a .n) = mid-len (a .at) end (a .out .now) (omega arith) ∙ omega arith in
-    let p : c .before .before .digits .last .0 ≡ decimal (a .n) = c .before .before .digits .ensures ∙ rw l in
-    (e, rw p (part-laid (a .at) end (decimal (a .n)) (a .out .now) e))
+    let s = c .before .before .before .before .before .before in
+    let a = s .args in
+    rw (← w .ensures .0) (part-filled (λ w. spelled w (a .n)) (λ w. length-spelled w (a .n)) (a .at) (w .result) (d .last .0) (a .out .now) (omega (arith, length-decimal (a .n))) (d .ensures))
 
 pub number-spec : {M : Type 1} → statement M
 number-spec =

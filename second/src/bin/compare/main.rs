@@ -1,9 +1,15 @@
-//! `compare SEED FILES DAYS LISTINGS`: both programs on generated input, until they differ.
+//! `compare SEED FILES DAYS LISTINGS EXTRACTS`: both programs on generated input, until they differ.
 
 use std::process::ExitCode;
 
 #[cfg(not(without_proved_library))]
 mod days;
+#[cfg(not(without_proved_library))]
+mod extract_checks;
+#[cfg(not(without_proved_library))]
+mod extract_reach;
+#[cfg(not(without_proved_library))]
+mod extracts;
 #[cfg(not(without_proved_library))]
 mod listings;
 #[cfg(not(without_proved_library))]
@@ -24,9 +30,9 @@ fn main() -> ExitCode {
         .map(|argument| argument.parse())
         .collect();
     match arguments.as_deref() {
-        Ok(&[seed, files, days, listings]) => run(seed, files, days, listings),
+        Ok(&[seed, files, days, listings, extracts]) => run(seed, files, days, listings, extracts),
         _ => {
-            eprintln!("usage: compare SEED FILES DAYS LISTINGS");
+            eprintln!("usage: compare SEED FILES DAYS LISTINGS EXTRACTS");
             ExitCode::from(2)
         }
     }
@@ -34,10 +40,13 @@ fn main() -> ExitCode {
 
 /// Each part says its numbers; the first difference, or the first part that shows too little, ends the run.
 #[cfg(not(without_proved_library))]
-fn run(seed: u64, files: u64, days: u64, listings: u64) -> ExitCode {
+fn run(seed: u64, files: u64, days: u64, listings: u64, extracts: u64) -> ExitCode {
     // Said first, so that a run that breaks off can be made again.
-    println!("seed {seed}, {files} files, {days} days, {listings} listings");
-    let good = readings::run(seed, files) && days::run(seed, days) && listings::run(seed, listings);
+    println!("seed {seed}, {files} files, {days} days, {listings} listings, {extracts} extracts");
+    let good = readings::run(seed, files)
+        && days::run(seed, days)
+        && listings::run(seed, listings)
+        && extracts::run(seed, extracts);
     if good {
         ExitCode::SUCCESS
     } else {

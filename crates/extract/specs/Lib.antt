@@ -1,0 +1,4 @@
+pub mod Header
+pub mod Picking
+pub mod Places
+pub mod Blocks

@@ -1,0 +1,176 @@
+//! Extracting: what a file holds for one entity, as a file of its own.
+
+use crate::controls::{write_batch_control, write_file_control, Sums};
+use crate::fields::{field, field_mut, number, write_number};
+use crate::individual::Code;
+use crate::reading::RECORD;
+use crate::refusal::{BUFFER, ENTITY_NUMBER};
+use crate::{read, Refusal, Rules, Session};
+use std::slice::ChunksExactMut;
+
+/// The entity as it stands in the first half of an entity field of the session's currency.
+type Digits = [u8; 4];
+
+/// Everything that an extraction leaves behind.
+#[derive(Clone, Debug, PartialEq, Eq)]
+pub struct Extracted {
+    /// The number of bytes written.
+    pub answer: Result<usize, Refusal>,
+    /// All bytes that were lent, as they are afterwards.
+    pub buffer: Vec<u8>,
+}
+
+impl Session {
+    /// The number of bytes written. Those behind them stay, and all of them when it is refused.
+    pub fn extract(&self, entity: u64, file: &[u8], out: &mut [u8]) -> Result<usize, Refusal> {
+        let refusal = Refusal::of_no_record;
+        let digits = digits(self.rules(), entity).ok_or(refusal(ENTITY_NUMBER))?;
+        read(self.rules(), file)?;
+        // Counted before anything is written: a buffer too short must stay as it is.
+        let length = length(file, digits);
+        let lent = out.get_mut(..length).ok_or(refusal(BUFFER))?;
+        let mut writer = Writer::new(lent);
+        for record in kept(file, digits) {
+            writer.take(record, digits);
+        }
+        Ok(length)
+    }
+}
+
+/// None for a number that is no entity's, or for an entity not on the roster.
+fn digits(rules: &Rules, entity: u64) -> Option<Digits> {
+    let listed = (1..=499).contains(&entity) && rules.roster[entity as usize];
+    listed.then(|| {
+        let mut digits = [b'0'; 4];
+        write_number(&mut digits, entity + rules.currency.added());
+        digits
+    })
+}
+
+/// A good file without the individual records to others and their additionals.
+fn kept(file: &[u8], entity: Digits) -> impl Iterator<Item = &[u8]> {
+    let mut addressed = false;
+    file.chunks_exact(RECORD)
+        .filter(move |record| match record[0] {
+            b'6' => {
+                addressed = field(record, 4, 7) == entity;
+                addressed
+            }
+            b'7' => addressed,
+            _ => true,
+        })
+}
+
+/// The extract's length in bytes.
+fn length(file: &[u8], entity: Digits) -> usize {
+    let (mut records, mut entries) = (2, 0);
+    for record in kept(file, entity) {
+        match record[0] {
+            b'5' => entries = 0,
+            b'6' | b'7' => entries += 1,
+            b'8' if entries > 0 => records += entries + 2,
+            _ => {}
+        }
+    }
+    records * RECORD
+}
+
+/// What of the extract is written, and what is still needed for the rest.
+struct Writer<'a> {
+    room: ChunksExactMut<'a, u8>,
+    records: u64,
+    batches: u64,
+    /// A batch header of the file, as long as no record of its batch was kept.
+    waiting: Option<&'a [u8]>,
+    /// The last batch header written, with its number in the extract.
+    header: &'a [u8],
+    batch: Sums,
+    file: Sums,
+}
+
+impl<'a> Writer<'a> {
+    fn new(out: &'a mut [u8]) -> Self {
+        Writer {
+            room: out.chunks_exact_mut(RECORD),
+            records: 0,
+            batches: 0,
+            waiting: None,
+            header: &[],
+            batch: Sums::default(),
+            file: Sums::default(),
+        }
+    }
+
+    fn take(&mut self, record: &'a [u8], entity: Digits) {
+        match record[0] {
+            b'1' => self.write_header(record, entity),
+            b'5' => self.waiting = Some(record),
+            b'6' => self.write_individual(record),
+            b'7' => {
+                self.copy(record);
+                self.batch.add_additional();
+            }
+            b'8' if self.waiting.is_none() => self.close_batch(),
+            b'9' => self.close_file(),
+            _ => {}
+        }
+    }
+
+    /// The next record's place in the buffer.
+    fn place(&mut self) -> &'a mut [u8] {
+        self.records += 1;
+        self.room.next().expect("the extract's length was counted")
+    }
+
+    fn copy(&mut self, record: &[u8]) -> &'a mut [u8] {
+        let place = self.place();
+        place.copy_from_slice(record);
+        place
+    }
+
+    /// From the house to the entity: destination and origin change places, and so do their names.
+    fn write_header(&mut self, record: &[u8], entity: Digits) {
+        let header = self.copy(record);
+        field_mut(header, 4, 13).copy_from_slice(b" 000000000");
+        field_mut(header, 5, 8).copy_from_slice(&entity);
+        field_mut(header, 14, 23).copy_from_slice(field(record, 4, 13));
+        field_mut(header, 41, 63).copy_from_slice(field(record, 64, 86));
+        field_mut(header, 64, 86).copy_from_slice(field(record, 41, 63));
+    }
+
+    fn write_individual(&mut self, record: &[u8]) {
+        if let Some(header) = self.waiting.take() {
+            self.open_batch(header);
+        }
+        self.copy(record);
+        add(&mut self.batch, record).expect("the reading found the record good");
+    }
+
+    /// Numbered anew: the old number would tell how many batches went elsewhere.
+    fn open_batch(&mut self, record: &[u8]) {
+        self.batches += 1;
+        self.batch = Sums::default();
+        let header = self.copy(record);
+        write_number(field_mut(header, 88, 94), self.batches);
+        self.header = header;
+    }
+
+    fn close_batch(&mut self) {
+        let place = self.place();
+        write_batch_control(self.header, &self.batch, place);
+        self.file.add_batch(&self.batch);
+    }
+
+    fn close_file(&mut self) {
+        let place = self.place();
+        write_file_control(self.batches, self.records, &self.file, place);
+    }
+}
+
+/// Nothing only where the reading would have refused.
+fn add(sums: &mut Sums, individual: &[u8]) -> Option<()> {
+    let destination = number(field(individual, 4, 11))?;
+    let amount = number(field(individual, 30, 39))?;
+    sums.add(Code::of(individual)?, destination, amount);
+    Some(())
+}
