@@ -19,16 +19,26 @@ pub struct Sums {
 
 impl Sums {
     pub fn add_individual(&mut self, individual: &Individual) {
-        self.add(individual.code, individual.destination, individual.amount);
+        let code = Some(individual.code);
+        self.add(code, individual.destination, individual.amount);
     }
 
-    pub fn add(&mut self, code: Code, destination: u64, amount: u64) {
+    /// An individual record that may yet be refused: a bad number counts as nothing.
+    pub fn add_record(&mut self, record: &[u8]) {
+        let or_nothing = |field| number(field).unwrap_or(0);
+        let destination = or_nothing(field(record, 4, 11));
+        let amount = or_nothing(field(record, 30, 39));
+        self.add(Code::of(record), destination, amount);
+    }
+
+    /// An amount of no code belongs to neither sum.
+    fn add(&mut self, code: Option<Code>, destination: u64, amount: u64) {
         self.entries += 1;
         self.destinations += destination;
-        if code.is_debit() {
-            self.debits += amount;
-        } else {
-            self.credits += amount;
+        match code.map(Code::is_debit) {
+            Some(true) => self.debits += amount,
+            Some(false) => self.credits += amount,
+            None => {}
         }
     }
 

@@ -1,24 +1,13 @@
 //! Extracting: what a file holds for one entity, as a file of its own.
 
-use crate::controls::{write_batch_control, write_file_control, Sums};
-use crate::fields::{field, field_mut, number, write_number};
-use crate::individual::Code;
+use crate::fields::{field, field_mut, write_number};
 use crate::reading::RECORD;
 use crate::refusal::{BUFFER, ENTITY_NUMBER};
+use crate::writing::Writer;
 use crate::{read, Refusal, Rules, Session};
-use std::slice::ChunksExactMut;
 
 /// The entity as it stands in the first half of an entity field of the session's currency.
 type Digits = [u8; 4];
-
-/// Everything that an extraction leaves behind.
-#[derive(Clone, Debug, PartialEq, Eq)]
-pub struct Extracted {
-    /// The number of bytes written.
-    pub answer: Result<usize, Refusal>,
-    /// All bytes that were lent, as they are afterwards.
-    pub buffer: Vec<u8>,
-}
 
 impl Session {
     /// The number of bytes written. Those behind them stay, and all of them when it is refused.
@@ -29,9 +18,9 @@ impl Session {
         // Counted before anything is written: a buffer too short must stay as it is.
         let length = length(file, digits);
         let lent = out.get_mut(..length).ok_or(refusal(BUFFER))?;
-        let mut writer = Writer::new(lent);
+        let mut extract = Extract::new(lent);
         for record in kept(file, digits) {
-            writer.take(record, digits);
+            extract.take(record, digits);
         }
         Ok(length)
     }
@@ -76,28 +65,17 @@ fn length(file: &[u8], entity: Digits) -> usize {
 }
 
 /// What of the extract is written, and what is still needed for the rest.
-struct Writer<'a> {
-    room: ChunksExactMut<'a, u8>,
-    records: u64,
-    batches: u64,
+struct Extract<'a> {
+    writer: Writer<'a>,
     /// A batch header of the file, as long as no record of its batch was kept.
     waiting: Option<&'a [u8]>,
-    /// The last batch header written, with its number in the extract.
-    header: &'a [u8],
-    batch: Sums,
-    file: Sums,
 }
 
-impl<'a> Writer<'a> {
+impl<'a> Extract<'a> {
     fn new(out: &'a mut [u8]) -> Self {
-        Writer {
-            room: out.chunks_exact_mut(RECORD),
-            records: 0,
-            batches: 0,
+        Extract {
+            writer: Writer::new(out),
             waiting: None,
-            header: &[],
-            batch: Sums::default(),
-            file: Sums::default(),
         }
     }
 
@@ -107,30 +85,17 @@ impl<'a> Writer<'a> {
             b'5' => self.waiting = Some(record),
             b'6' => self.write_individual(record),
             b'7' => {
-                self.copy(record);
-                self.batch.add_additional();
+                self.writer.additional(record);
             }
-            b'8' if self.waiting.is_none() => self.close_batch(),
-            b'9' => self.close_file(),
+            b'8' if self.waiting.is_none() => self.writer.close_batch(),
+            b'9' => self.writer.close_file(),
             _ => {}
         }
     }
 
-    /// The next record's place in the buffer.
-    fn place(&mut self) -> &'a mut [u8] {
-        self.records += 1;
-        self.room.next().expect("the extract's length was counted")
-    }
-
-    fn copy(&mut self, record: &[u8]) -> &'a mut [u8] {
-        let place = self.place();
-        place.copy_from_slice(record);
-        place
-    }
-
     /// From the house to the entity: destination and origin change places, and so do their names.
     fn write_header(&mut self, record: &[u8], entity: Digits) {
-        let header = self.copy(record);
+        let header = self.writer.copy(record);
         field_mut(header, 4, 13).copy_from_slice(b" 000000000");
         field_mut(header, 5, 8).copy_from_slice(&entity);
         field_mut(header, 14, 23).copy_from_slice(field(record, 4, 13));
@@ -140,37 +105,9 @@ impl<'a> Writer<'a> {
 
     fn write_individual(&mut self, record: &[u8]) {
         if let Some(header) = self.waiting.take() {
-            self.open_batch(header);
+            // Numbered anew: the old number would tell how many batches went elsewhere.
+            self.writer.open_batch(header);
         }
-        self.copy(record);
-        add(&mut self.batch, record).expect("the reading found the record good");
+        self.writer.individual(record);
     }
-
-    /// Numbered anew: the old number would tell how many batches went elsewhere.
-    fn open_batch(&mut self, record: &[u8]) {
-        self.batches += 1;
-        self.batch = Sums::default();
-        let header = self.copy(record);
-        write_number(field_mut(header, 88, 94), self.batches);
-        self.header = header;
-    }
-
-    fn close_batch(&mut self) {
-        let place = self.place();
-        write_batch_control(self.header, &self.batch, place);
-        self.file.add_batch(&self.batch);
-    }
-
-    fn close_file(&mut self) {
-        let place = self.place();
-        write_file_control(self.batches, self.records, &self.file, place);
-    }
-}
-
-/// Nothing only where the reading would have refused.
-fn add(sums: &mut Sums, individual: &[u8]) -> Option<()> {
-    let destination = number(field(individual, 4, 11))?;
-    let amount = number(field(individual, 30, 39))?;
-    sums.add(Code::of(individual)?, destination, amount);
-    Some(())
 }

@@ -1,6 +1,7 @@
 //! Good and damaged files, each made from a seed and its number alone.
 
 pub mod addressed;
+pub mod built;
 mod damage;
 pub mod day;
 mod desk;
@@ -14,9 +15,12 @@ pub mod listing;
 pub mod meant;
 mod opening;
 pub mod random;
+mod room;
 mod session;
+pub mod strip;
 mod structure;
 mod sums;
+pub mod tray;
 
 use crate::{Refusal, Rules};
 pub use draft::Draft;
@@ -52,6 +56,8 @@ const FLIPS: u64 = 1 << 63;
 const DAYS: u64 = 1 << 62;
 const LISTINGS: u64 = 1 << 61;
 const EXTRACTS: u64 = 1 << 60;
+const TRAYS: u64 = 1 << 59;
+const STRIPS: u64 = 1 << 58;
 
 fn refused(number: u16, place: usize) -> Answer {
     Some(Err(Refusal { number, place }))

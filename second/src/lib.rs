@@ -1,5 +1,6 @@
-//! An independent second program for document 01: so far reading, opening, presenting, extracting and the listing.
+//! An independent second program for document 01: reading, opening, presenting, extracting, building, stripping and the listing.
 
+pub mod building;
 pub mod controls;
 pub mod day;
 pub mod extract;
@@ -14,9 +15,15 @@ pub mod reading;
 pub mod refusal;
 pub mod rules;
 pub mod session;
+pub mod stripping;
+pub mod tray;
+pub mod writing;
 
+pub use building::build;
 pub use listing::listing;
 pub use reading::read;
 pub use refusal::Refusal;
 pub use rules::{Currency, Rules};
 pub use session::{Cell, Session};
+pub use stripping::strip;
+pub use writing::Written;

@@ -3,11 +3,10 @@
 #![cfg(not(without_proved_library))]
 
 use crate::day::{Day, Opening, Outcome};
-use crate::extract::Extracted;
 use crate::session::CELLS;
-use crate::{Cell, Currency, Refusal, Rules};
+use crate::{Cell, Currency, Refusal, Rules, Written};
 
-/// Number 0 is acceptance; a reading then says the number of records in place of the place.
+/// Number 0 is acceptance; a reading then says the number of records in place of the place, a job that writes the number of bytes.
 #[repr(C)]
 struct Said {
     number: u64,
@@ -24,7 +23,7 @@ const JUNK: u64 = 0xa5a5_a5a5_a5a5_a5a5;
 /// Words behind the answers that nobody lent.
 const GUARD: usize = 2;
 
-/// Bytes before and behind an extract's buffer that nobody lent: more than two records.
+/// Bytes before and behind a buffer that nobody lent: more than two records.
 const GUARD_BYTES: usize = 200;
 
 // A slice is two arguments, its pointer and its length: as one argument of sixteen bytes it would go to the stack whole where one register is left.
@@ -78,6 +77,45 @@ unsafe extern "C" {
         out: *mut u8,
         out_length: usize,
     ) -> Said;
+
+    fn shaydhoqel_build(
+        date: u64,
+        dollars: bool,
+        entities: *const u64,
+        entities_length: usize,
+        header: *const u8,
+        header_length: usize,
+        tray: *const u8,
+        tray_length: usize,
+        out: *mut u8,
+        out_length: usize,
+    ) -> Said;
+
+    fn shaydhoqel_strip(
+        date: u64,
+        dollars: bool,
+        entities: *const u64,
+        entities_length: usize,
+        file: *const u8,
+        file_length: usize,
+        out: *mut u8,
+        out_length: usize,
+    ) -> Said;
+}
+
+/// A call that begins with an opening: plain arguments, then slices as pointer and length, then what is written.
+macro_rules! opened {
+    ($job:ident, $opening:expr, [$($plain:expr),*], [$($slice:expr),*], $($out:expr),+) => {
+        $job(
+            $opening.date,
+            $opening.currency == Currency::Dollars,
+            $opening.entities.as_ptr(),
+            $opening.entities.len(),
+            $($plain,)*
+            $($slice.as_ptr(), $slice.len(),)*
+            $($out),+
+        )
+    };
 }
 
 pub fn read(rules: &Rules, file: &[u8]) -> Result<usize, Refusal> {
@@ -92,10 +130,7 @@ pub fn read(rules: &Rules, file: &[u8]) -> Result<usize, Refusal> {
             file.len(),
         )
     };
-    match said.number {
-        0 => Ok(place(said.place)),
-        number => Err(refusal(number, said.place)),
-    }
+    said.counted()
 }
 
 pub fn day(day: &Day) -> Outcome {
@@ -105,20 +140,16 @@ pub fn day(day: &Day) -> Outcome {
     let (mut sent, mut received) = ([JUNK; CELLS], [JUNK; CELLS]);
     // SAFETY: the library reads and writes what it is lent, for the time of the call.
     let said = unsafe {
-        shaydhoqel_day(
-            day.opening.date,
-            day.opening.currency == Currency::Dollars,
-            day.opening.entities.as_ptr(),
-            day.opening.entities.len(),
-            day.ends().as_ptr(),
-            day.ends().len(),
-            day.bytes().as_ptr(),
-            day.bytes().len(),
+        opened!(
+            shaydhoqel_day,
+            day.opening,
+            [],
+            [day.ends(), day.bytes()],
             answers.as_mut_ptr(),
             lent,
             &mut positions,
             &mut sent,
-            &mut received,
+            &mut received
         )
     };
     assert_eq!(answers[lent..], [JUNK; GUARD], "written behind the answers");
@@ -141,16 +172,12 @@ pub fn day_listing(day: &Day) -> Result<Vec<u8>, String> {
     let mut out = [JUNK_BYTE; LISTING];
     // SAFETY: the library reads what it is lent and writes the buffer, for the time of the call.
     let written = unsafe {
-        shaydhoqel_day_listing(
-            day.opening.date,
-            day.opening.currency == Currency::Dollars,
-            day.opening.entities.as_ptr(),
-            day.opening.entities.len(),
-            day.ends().as_ptr(),
-            day.ends().len(),
-            day.bytes().as_ptr(),
-            day.bytes().len(),
-            &mut out,
+        opened!(
+            shaydhoqel_day_listing,
+            day.opening,
+            [],
+            [day.ends(), day.bytes()],
+            &mut out
         )
     };
     handed_over(&out, written)
@@ -170,25 +197,31 @@ pub fn extract(
     file: &[u8],
     out: &mut [u8],
 ) -> Result<usize, Refusal> {
-    let dollars = opening.currency == Currency::Dollars;
+    let (lent, length) = (out.as_mut_ptr(), out.len());
     // SAFETY: the library reads what it is lent and writes the buffer, for the time of the call.
-    let said = unsafe {
-        shaydhoqel_extract(
-            opening.date,
-            dollars,
-            opening.entities.as_ptr(),
-            opening.entities.len(),
-            entity,
-            file.as_ptr(),
-            file.len(),
-            out.as_mut_ptr(),
-            out.len(),
-        )
-    };
-    match said.number {
-        0 => Ok(place(said.place)),
-        number => Err(refusal(number, said.place)),
-    }
+    let said = unsafe { opened!(shaydhoqel_extract, opening, [entity], [file], lent, length) };
+    said.counted()
+}
+
+/// The call alone, for measuring: opens a session and builds.
+pub fn build(
+    opening: &Opening,
+    header: &[u8],
+    tray: &[u8],
+    out: &mut [u8],
+) -> Result<usize, Refusal> {
+    let (lent, length) = (out.as_mut_ptr(), out.len());
+    // SAFETY: as for extracting.
+    let said = unsafe { opened!(shaydhoqel_build, opening, [], [header, tray], lent, length) };
+    said.counted()
+}
+
+/// The call alone, for measuring: opens a session and strips.
+pub fn strip(opening: &Opening, file: &[u8], out: &mut [u8]) -> Result<usize, Refusal> {
+    let (lent, length) = (out.as_mut_ptr(), out.len());
+    // SAFETY: as for extracting.
+    let said = unsafe { opened!(shaydhoqel_strip, opening, [], [file], lent, length) };
+    said.counted()
 }
 
 /// The answer and the buffer afterwards, or what was written outside of it.
@@ -197,12 +230,35 @@ pub fn extracted(
     entity: u64,
     file: &[u8],
     buffer: &[u8],
-) -> Result<Extracted, String> {
+) -> Result<Written, String> {
+    guarded(buffer, |lent| extract(opening, entity, file, lent))
+}
+
+/// As `extracted`.
+pub fn built(
+    opening: &Opening,
+    header: &[u8],
+    tray: &[u8],
+    buffer: &[u8],
+) -> Result<Written, String> {
+    guarded(buffer, |lent| build(opening, header, tray, lent))
+}
+
+/// As `extracted`.
+pub fn stripped(opening: &Opening, file: &[u8], buffer: &[u8]) -> Result<Written, String> {
+    guarded(buffer, |lent| strip(opening, file, lent))
+}
+
+/// Lends a copy of the buffer with bytes on both sides that nobody lent.
+fn guarded(
+    buffer: &[u8],
+    job: impl FnOnce(&mut [u8]) -> Result<usize, Refusal>,
+) -> Result<Written, String> {
     let guard = [JUNK_BYTE; GUARD_BYTES];
     let mut bytes = [&guard, buffer, &guard].concat();
     let (before, lent_and_behind) = bytes.split_at_mut(GUARD_BYTES);
     let (lent, behind) = lent_and_behind.split_at_mut(buffer.len());
-    let answer = extract(opening, entity, file, lent);
+    let answer = job(lent);
     if before != guard {
         return Err(format!("answered {answer:?}, wrote before the buffer"));
     }
@@ -210,7 +266,17 @@ pub fn extracted(
         return Err(format!("answered {answer:?}, wrote behind the buffer"));
     }
     let buffer = lent.to_vec();
-    Ok(Extracted { answer, buffer })
+    Ok(Written { answer, buffer })
+}
+
+impl Said {
+    /// Records read or bytes written, or the refusal.
+    fn counted(&self) -> Result<usize, Refusal> {
+        match self.number {
+            0 => Ok(place(self.place)),
+            number => Err(refusal(number, self.place)),
+        }
+    }
 }
 
 /// The text in a buffer, or what is wrong with the way it was handed over.

@@ -9,7 +9,9 @@ use crate::rules::Rules;
 
 pub const RECORD: usize = 94;
 const SHORTEST: usize = 2 * RECORD;
-const LONGEST: usize = 10_000 * RECORD;
+/// A file of more is too long.
+pub const MOST_RECORDS: usize = 10_000;
+const LONGEST: usize = MOST_RECORDS * RECORD;
 
 /// The number of records of a good file.
 pub fn read(rules: &Rules, file: &[u8]) -> Result<usize, Refusal> {

@@ -19,6 +19,7 @@ pub const INFORMATION: u16 = 87;
 pub const OTHER_CURRENCY: u16 = 203;
 pub const NOT_ON_ROSTER: u16 = 204;
 pub const BUFFER: u16 = 206;
+pub const TRAY: u16 = 207;
 pub const ENTITY_NUMBER: u16 = 208;
 pub const IDENTIFIER: u16 = 209;
 

@@ -11,7 +11,7 @@ use Rattle.paper.specs.Answers.{accepted, refused, andThen, require}
 use Rattle.paper.specs.Fields.{within}
 use Rattle.paper.specs.Reading.{reading}
 use Rattle.paper.specs.Extract.{extract}
-use Rattle.paper.specs.Buffers.{Outcome, written, roomFor, entityGiven, extracting}
+use Rattle.paper.specs.Buffers.{written, roomFor, entityGiven, extracting}
 use Rattle.paper.proofs.Tests.{and-l, T-of, of-T}
 use Rattle.desk.proofs.Rosters.{below-500}
 

@@ -3,49 +3,34 @@ use Prim.Native.Nat.{ℕ, _+_, _*_, _≤_}
 use native.Mathlib.Omega.{arith}
 use mathlib.Core.Bool.{false, _&&_}
 use mathlib.Core.List.{List}
-use mathlib.Core.Path.{_≡_, refl, sym, ap, _∙_, subst}
+use mathlib.Core.Path.{_≡_, refl, sym, _∙_}
 use lib.Dec.{T, leb, leb→le, le→leb}
-use lib.ListN.{length, take, drop, getD}
-use lib.Seq.{take-at}
+use lib.ListN.{length, drop, getD}
 use Rattle.paper.specs.declared.answer.Fault.{Fault}
 use Rattle.paper.specs.declared.answer.Output.{Output}
 use Rattle.paper.specs.declared.answer.Output.the-variants.{Accepted, Refused}
-use Rattle.paper.specs.Answers.{Said, accepted, refused, andThen, require}
+use Rattle.paper.specs.Answers.{Said, accepted, andThen, require}
 use Rattle.paper.specs.Fields.{within}
 use Rattle.paper.specs.Reading.{reading}
 use Rattle.paper.specs.Extract.{batchesOf, itemsTo, batchesTo, itemRecords, extract}
-use Rattle.paper.specs.Buffers.{Outcome, told, over, written, roomFor, entityGiven, extracting}
+use Rattle.paper.specs.Buffers.{told, written, roomFor, entityGiven, extracting}
 use Rattle.paper.specs.Demands.{SameTo, itemsOf}
 use Rattle.paper.proofs.Tests.{and-l, and-r, of-T}
 use Rattle.paper.proofs.Refusals.{both-accept, required}
-use Rattle.paper.proofs.Lent.{extracting-refused, over-rest}
 use Rattle.paper.proofs.Numbers.{told-once}
 use Rattle.paper.proofs.Apart as paper-apart
 use Rattle.paper.proofs.Size.{extract-length, extract-fits}
 use Rattle.desk.specs.declared.Session.{Session}
 use Rattle.desk.specs.Standing.{rulesOf}
-use Rattle.desk.specs.Extracts.{Extracts, answerFor, handed, Extractable}
-
-written-answer : (a : Said) (new buffer : List ℕ) → written a new buffer .answer ≡ a
-unfolding written
-written-answer accepted new buffer = refl
-written-answer (refused n place) new buffer = refl
+use Rattle.desk.specs.Lent.{handed}
+use Rattle.desk.specs.Extracts.{Extracts, answerFor, Extractable}
+use Rattle.desk.proofs.Lent.{answers, asked, numbers, held, stays}
 
 module _ (s : Session) (e : ℕ) (file before : List ℕ) where
-  says : extracting (rulesOf s) e file before .answer ≡ answerFor s e file before
-  unfolding extracting
-  says = written-answer (answerFor s e file before) (extract (s .currency) e file) before
-
-  writes : Extractable s e file before
-      → extracting (rulesOf s) e file before ≡ told (Accepted (length (extract (s .currency) e file))) (over (extract (s .currency) e file) before)
-  unfolding extracting written entityGiven roomFor andThen require
-  writes x =
-      let room = le→leb (length (extract (s .currency) e file)) (length before) (x .room) in
-      rw (of-T (within 1 499 e) (x .entity), of-T (getD (s .roster) e false) (x .listed), x .reads, of-T (leb (length (extract (s .currency) e file)) (length before)) room) refl
-
-  asked : answerFor s e file before ≡ accepted → Extractable s e file before
+  -- an answer of acceptance asks for all of it, and for no more
+  all-asked : answerFor s e file before ≡ accepted → Extractable s e file before
   unfolding entityGiven roomFor
-  asked h =
+  all-asked h =
       let new : List ℕ = extract (s .currency) e file in
       let x = both-accept (entityGiven (rulesOf s) e) (andThen (reading (rulesOf s) file) (roomFor new before)) h in
       let y = both-accept (reading (rulesOf s) file) (roomFor new before) (x .1) in
@@ -57,43 +42,39 @@ module _ (s : Session) (e : ℕ) (file before : List ℕ) where
         room = leb→le (length new) (length before) (required (leb (length new) (length before)) 206 0 (y .1));
       }
 
+  no-more : Extractable s e file before → answerFor s e file before ≡ accepted
+  unfolding entityGiven roomFor andThen require
+  no-more x =
+      let room = le→leb (length (extract (s .currency) e file)) (length before) (x .room) in
+      rw (of-T (within 1 499 e) (x .entity), of-T (getD (s .roster) e false) (x .listed), x .reads, of-T (leb (length (extract (s .currency) e file)) (length before)) room) refl
+
   module _ (r : Output) (after : List ℕ) (h : Extracts s e file before r after) where
-    of-answer : {q : Output} → r ≡ q → Extracts s e file before q after
-    of-answer p = subst (λ (x : Output). Extracts s e file before x after) p h
+    says : told r after ≡ written (answerFor s e file before) (extract (s .currency) e file) before
+    unfolding extracting
+    says = h
 
     -- demand 1: a refused call leaves the lent buffer as it was
     pub extract-refused : {fault : Fault} {place : ℕ} → r ≡ Refused fault place → after ≡ before
-    extract-refused p =
-        let k = of-answer p in
-        ap (λ (o : Outcome). o .buffer) k ∙ extracting-refused (rulesOf s) e file before (sym (ap (λ (o : Outcome). o .answer) k))
+    extract-refused = stays (answerFor s e file before) (extract (s .currency) e file) before r after says
 
     -- the first refusal is the answer: 208, then the reading's, then 206
     pub extract-answer : told r after .answer ≡ answerFor s e file before
-    extract-answer = ap (λ (o : Outcome). o .answer) h ∙ says
+    extract-answer = answers (answerFor s e file before) (extract (s .currency) e file) before r after says
 
     -- accepted exactly when E is 1 to 499 and on the roster, the reading accepts and there is room
     -- (not so with a desk that refuses all, or one that skips the reading where nothing is addressed to E)
     pub extract-exactly : (Extractable s e file before → r ≡ Accepted (length (extract (s .currency) e file)))
         × ((n : ℕ) → r ≡ Accepted n → Extractable s e file before)
-    extract-exactly = (
-      λ x. told-once r (Accepted (length (extract (s .currency) e file))) after (over (extract (s .currency) e file) before) (h ∙ writes x) .0,
-      λ n p. asked (sym says ∙ sym (ap (λ (o : Outcome). o .answer) (of-answer p))),
-    )
+    extract-exactly =
+        let a : Said = answerFor s e file before in
+        let new : List ℕ = extract (s .currency) e file in
+        ((λ x. numbers a new before r after says (no-more x)), λ n p. all-asked (asked a new before r after says p))
 
     -- then the caller has the extract, its length is the number given, and the rest of the buffer stays
     -- (not so with an extract that is always empty, or a call that blanks the rest of the buffer)
     pub extract-held : {n : ℕ} → r ≡ Accepted n
         → (handed r after ≡ extract (s .currency) e file) × (n ≡ length (extract (s .currency) e file)) × (drop n after ≡ drop n before)
-    unfolding handed over
-    extract-held {n} p =
-        let new : List ℕ = extract (s .currency) e file in
-        let k : told (Accepted n) after ≡ told (Accepted (length new)) (over new before) = of-answer p ∙ writes (extract-exactly .1 n p) in
-        let l : n ≡ length new = ap (λ (o : Outcome). o .written) k in
-        let b : after ≡ over new before = ap (λ (o : Outcome). o .buffer) k in (
-          ap (λ (x : Output). handed x after) p ∙ ap (take n) b ∙ take-at new (drop (length new) before) n (sym l),
-          l,
-          ap (drop n) b ∙ subst (λ (m : ℕ). drop m (over new before) ≡ drop m before) (sym l) (over-rest new before),
-        )
+    extract-held = held (answerFor s e file before) (extract (s .currency) e file) before r after says
 
     -- file header and control, two more for each batch that holds records to E, and the records to E with their additionals: 94 bytes each
     pub extract-size : {n : ℕ} → r ≡ Accepted n

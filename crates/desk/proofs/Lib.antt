@@ -4,6 +4,14 @@ pub mod Keys
 pub mod Replies
 pub mod Once
 pub mod Demands
+pub mod Lent
 pub mod Extracts
 pub mod Sharing
+pub mod Stripping
+pub mod Building
+pub mod RoundTrips
 pub mod Asking
+pub mod Traying
+pub mod ReadingNumbers
+pub mod TrayFaults
+pub mod Sizes

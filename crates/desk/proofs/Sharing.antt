@@ -17,7 +17,8 @@ use Rattle.paper.proofs.Shared as paper-shared
 use Rattle.paper.proofs.Shared.{extract-records, same-hands, nobody-gets}
 use Rattle.desk.specs.declared.Session.{Session}
 use Rattle.desk.specs.Standing.{rulesOf}
-use Rattle.desk.specs.Extracts.{Extracts, handed}
+use Rattle.desk.specs.Lent.{handed}
+use Rattle.desk.specs.Extracts.{Extracts}
 use Rattle.desk.proofs.Extracts.{extract-exactly, extract-held, extract-has-room}
 
 -- a call for every number, with a buffer as long as the file for every entity on the roster

@@ -1,12 +1,11 @@
 -- The words in which the demands on the desk's extracts are stated.
 use Prim.Native.Nat.{ℕ, _≤_}
 use mathlib.Core.Bool.{false}
-use mathlib.Core.List.{List, []}
+use mathlib.Core.List.{List}
 use mathlib.Core.Path.{_≡_}
 use lib.Dec.{T}
-use lib.ListN.{length, take, getD}
+use lib.ListN.{length, getD}
 use Rattle.paper.specs.declared.answer.Output.{Output}
-use Rattle.paper.specs.declared.answer.Output.the-variants.{Accepted, Refused}
 use Rattle.paper.specs.Answers.{Said, accepted, andThen}
 use Rattle.paper.specs.Fields.{within}
 use Rattle.paper.specs.Reading.{reading}
@@ -22,11 +21,6 @@ Extracts s e file before r after = told r after ≡ extracting (rulesOf s) e fil
 -- the answer to a call: 208, then the reading's refusals, then 206
 abbrev pub answerFor : Session → ℕ → List ℕ → List ℕ → Said
 answerFor s e file before = andThen (entityGiven (rulesOf s) e) (andThen (reading (rulesOf s) file) (roomFor (extract (s .currency) e file) before))
-
--- the extract that a caller has got: the first bytes of the buffer after acceptance, nothing after a refusal
-unfoldable pub handed : Output → List ℕ → List ℕ
-handed (Accepted n) buffer = take n buffer
-handed (Refused fault place) buffer = []
 
 -- all that a call asks for: an entity 1 to 499 and on the roster, a file that the reading accepts, and room for the extract
 pub record Extractable (s : Session) (e : ℕ) (file before : List ℕ) : Type 0 where

@@ -6,7 +6,7 @@ ghost use Rattle.paper.specs.declared.rules.Currency.the-variants.{Pesos};
 ghost use Rattle.paper.specs.Answers.{said, refused, numberOf};
 ghost use Rattle.paper.specs.Fields.{every, within};
 ghost use Rattle.paper.specs.Reading.{reading};
-ghost use Rattle.paper.specs.Buffers.{told, extracting};
+ghost use Rattle.paper.specs.Buffers.{told, extracting, building, stripping};
 ghost use Rattle.paper.specs.Sessions.{listed, newSession, opening, presenting, cellOf};
 ghost use Rattle.desk.specs.Standing.{termsOf, rulesOf, standing, heard};
 ghost use Rattle.desk.specs.Calls.{Reachable};
@@ -140,7 +140,7 @@ impl Session {
         let used = session.used[key];
         let read = answers::of_reading(reading);
         let new = answers::unless_used(used);
-        let answer = answers::first(read, new);
+        let answer = read.and_then(new);
         let Answer::Accepted = answer else {
             return Reply { answer, session };
         };
@@ -160,10 +160,39 @@ impl Session {
         let terms = self.terms();
         let reading = reading::read(terms, &self.roster, file);
         let Reading::Accepted(_) = reading else {
-            return answers::unwritten(reading);
+            return Output::unwritten(answers::of_reading(reading));
         };
         let currency = self.currency;
         extract::extract(currency, entity, file, out)
+    }
+
+    // 207, 201, 206, each leaving the buffer as it was; then the reading's answer on the file, and spaces in its place where it refuses.
+    pub fn build(self, header: &[u8], tray: &[u8], out: &mut [u8]) -> Output
+        ensures { λ r. ⌜ told r (now (out .exit)) ≡ building (rulesOf self) (now (header .entry)) (now (tray .entry)) (now (out .entry)) ⌝ }
+    {
+        let built = build::build(header, tray, out);
+        let Output::Accepted(size) = built else {
+            return built;
+        };
+        let terms = self.terms();
+        let reading = reading::read(terms, &self.roster, &out[0..size]);
+        let Reading::Accepted(_) = reading else {
+            writing::blanks(&mut out[0..size]);
+            return Output::unwritten(answers::of_reading(reading));
+        };
+        built
+    }
+
+    // The reading's refusals, then 206; each leaves the buffer as it was.
+    pub fn strip(self, file: &[u8], out: &mut [u8]) -> Output
+        ensures { λ r. ⌜ told r (now (out .exit)) ≡ stripping (rulesOf self) (now (file .entry)) (now (out .entry)) ⌝ }
+    {
+        let terms = self.terms();
+        let reading = reading::read(terms, &self.roster, file);
+        let Reading::Accepted(_) = reading else {
+            return Output::unwritten(answers::of_reading(reading));
+        };
+        strip::strip(file, out)
     }
 
     // What the session holds for an entity; nothing for a number that is none.

@@ -1,27 +1,13 @@
 // What is addressed to one entity.
 ghost use mathlib.Core.Path.{_≡_};
-ghost use mathlib.Core.List.{List};
-ghost use Prim.Native.Nat.{ℕ};
 ghost use Rattle.paper.specs.Listing.{currencyIf};
 ghost use Rattle.paper.specs.Sessions.{opening};
-ghost use Rattle.paper.specs.Buffers.{told, extracting};
+ghost use Rattle.paper.specs.Buffers.{extracting};
 ghost use Rattle.export.specs.Spoken.{filledOf};
 use crate::Spoken;
 use crate::currency;
-use crate::speak;
+use crate::speak_output;
 use desk::Session;
-use paper::answer::Answer;
-use paper::answer::Output;
-
-// 0 and the bytes written, or the refusal number and its place.
-fn speak_output(output: Output) -> Spoken
-    ensures { λ r. ⌜ ((buffer : List ℕ) → filledOf (told output buffer) ≡ record { spoken = r; buffer = buffer }) ⌝ }
-{
-    match output {
-        Output::Accepted(bytes) => speak(bytes, Answer::Accepted),
-        Output::Refused(fault, place) => speak(0, Answer::Refused(fault, place)),
-    }
-}
 
 // An extract in a session opened with this date, currency and list of entities. A refused opening gives the session of 000101, pesos, nobody.
 #[no_mangle]

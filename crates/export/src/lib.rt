@@ -1,20 +1,24 @@
 // The library for programs in Rust and C: functions on numbers and byte slices.
 ghost use mathlib.Core.Path.{_≡_};
-ghost use Prim.Native.Nat.{_/_};
+ghost use mathlib.Core.List.{List};
+ghost use Prim.Native.Nat.{ℕ, _/_};
 ghost use lib.ListN.{length};
 ghost use Rattle.paper.specs.Answers.{said};
 ghost use Rattle.paper.specs.Reading.{reading};
+ghost use Rattle.paper.specs.Buffers.{told};
 ghost use Rattle.paper.specs.Listing.{currencyIf, positionsOf};
 ghost use Rattle.listing.specs.Room.{Written};
-ghost use Rattle.export.specs.Spoken.{spokenOf};
+ghost use Rattle.export.specs.Spoken.{spokenOf, filledOf};
 use listing::lines::Listing;
 use paper::answer::Answer;
+use paper::answer::Output;
 use paper::rules::Currency;
 use paper::rules::Terms;
 use reading::Reading;
 
 pub mod day;
 pub mod extract;
+pub mod tray;
 
 // An answer in the paper's numbers: 0 and the number of records, or the refusal number and its place.
 #[repr(C)]
@@ -44,6 +48,16 @@ fn speak(records: usize, answer: Answer) -> Spoken
             number: fault.number(),
             place: place as u64,
         },
+    }
+}
+
+// 0 and the bytes written, or the refusal number and its place.
+fn speak_output(output: Output) -> Spoken
+    ensures { λ r. ⌜ ((buffer : List ℕ) → filledOf (told output buffer) ≡ record { spoken = r; buffer = buffer }) ⌝ }
+{
+    match output {
+        Output::Accepted(bytes) => speak(bytes, Answer::Accepted),
+        Output::Refused(fault, place) => speak(0, Answer::Refused(fault, place)),
     }
 }
 

@@ -1,27 +1,24 @@
 -- An extract is its batches' blocks: what stands between two headers is counted by the control after it.
-use Prim.Native.Nat.{ℕ, zero, suc, _+_}
-use mathlib.Core.Bool.{false}
+use Prim.Native.Nat.{ℕ, suc, _+_}
 use mathlib.Core.List.{List, [], _∷_, _++_, append-assoc}
-use mathlib.Core.Logic.{_⊎_, inl, inr}
+use mathlib.Core.Logic.{inl, inr}
 use mathlib.Core.Path.{_≡_, refl, sym, ap, _∙_}
 use native.Mathlib.Omega.{arith}
 use lib.ListN.{length}
-use Rattle.paper.specs.declared.record.Kind.the-variants.{FileHeader, BatchHeader, Individual, Additional}
-use Rattle.paper.specs.Fields.{field, number}
+use Rattle.paper.specs.declared.record.Kind.the-variants.{FileHeader, BatchHeader}
 use Rattle.paper.specs.Kinds.{kindOf}
 use Rattle.paper.specs.Controls.{zeros}
 use Rattle.paper.specs.Reading.{Counts, nothingCounted, counted}
 use Rattle.paper.specs.Writing.{joined, numbered, fileControlOf, owed, settled, owedBefore, settledBefore, ending, withControls, closing}
 use Rattle.paper.specs.Extract.{Item, Batch, itemRecords, batchRecords}
 use Rattle.paper.proofs.Lists.{kind-numbered}
-use Rattle.paper.proofs.Grouping.{Is, AdditionalsGood, ItemsGood, BatchesGood}
-use Rattle.extract.specs.Blocks.{opens, ownOf, withRecord, tallied, block, blocksFrom, flat}
+use Rattle.paper.proofs.Grouping.{AdditionalsGood, ItemsGood, BatchesGood}
+use Rattle.batches.specs.Blocks.{opens, ownOf, block}
+use Rattle.batches.proofs.Own.{Within, own-within}
+use Rattle.batches.proofs.Blocks.{past, controls-past, settled-batches}
+use Rattle.extract.specs.Blocks.{blocksFrom, flat}
 
 -- ---- the records of items, one by one
-
-abbrev Within : List (List ℕ) → Type 0
-Within [] = Unit {0}
-Within (r ∷ rs) = (Is Individual r ⊎ Is Additional r) × Within rs
 
 additionals-within : (xs rest : List (List ℕ)) → AdditionalsGood xs → Within rest → Within (xs ++ rest)
 additionals-within [] rest g w = w
@@ -39,52 +36,10 @@ unfolding ownOf flat opens
 headers-end [] g = refl
 headers-end (b ∷ bs) g = rw (g .0 .0) refl
 
-stays : (r : List ℕ) → Is Individual r ⊎ Is Additional r → opens (kindOf r) ≡ false
-unfolding opens
-stays r (inl h) = rw (h .0) refl
-stays r (inr h) = rw (h .0) refl
-
-own-within : (rs rest : List (List ℕ)) → Within rs → ownOf rest ≡ [] → ownOf (rs ++ rest) ≡ rs
-unfolding ownOf
-own-within [] rest w e = e
-own-within (r ∷ rs) rest w e = rw (stays r (w .0)) (ap (λ (l : List (List ℕ)). r ∷ l) (own-within rs rest (w .1) e))
-
 pub own-of : (is : List Item) (bs : List Batch) → ItemsGood is → BatchesGood bs → ownOf (itemRecords is ++ flat bs) ≡ itemRecords is
 own-of is bs g h = own-within (itemRecords is) (flat bs) (items-within is g) (headers-end bs h)
 
 -- ---- controls
-
--- the counts after a batch's own records; k is the number of the last individual one
-abbrev past : Counts → List (List ℕ) → ℕ → Counts
-past c rs k = record {
-  place = c .place + length rs;
-  header = c .header;
-  counter = k;
-  batches = c .batches;
-  batch = tallied (c .batch) rs;
-  closed = c .closed;
-}
-
-one-past : (c : Counts) (r : List ℕ) (rest : List (List ℕ)) → Is Individual r ⊎ Is Additional r
-    → (k : ℕ) × (withControls c (r ∷ rest) ≡ r ∷ withControls (past c (r ∷ []) k) rest)
-unfolding withControls owedBefore settledBefore counted tallied withRecord
-one-past c r rest (inl h) = (number (field r 88 94), rw (h .0) refl)
-one-past c r rest (inr h) = (c .counter, rw (h .0) refl)
-
-controls-past : (c : Counts) (rs rest : List (List ℕ)) → Within rs
-    → (k : ℕ) × (withControls c (rs ++ rest) ≡ rs ++ withControls (past c rs k) rest)
-unfolding tallied
-controls-past c [] rest w = (c .counter, let e : c .place + 0 ≡ c .place = omega arith in rw e refl)
-controls-past c (r ∷ rs) rest w =
-    let first = one-past c r (rs ++ rest) (w .0) in
-    let later = controls-past (past c (r ∷ []) (first .0)) rs rest (w .1) in
-    let e : c .place + suc (length rs) ≡ c .place + 1 + length rs = omega arith in
-    (later .0, first .1 ∙ rw e (ap (λ (l : List (List ℕ)). r ∷ l) (later .1)))
-
-settled-batches : (n : ℕ) (c : Counts) → settled n c .batches ≡ c .batches
-unfolding settled counted
-settled-batches zero c = refl
-settled-batches (suc n) c = refl
 
 controls-blocks : (bs : List Batch) (n : ℕ) (c : Counts) → c .batches ≡ n → BatchesGood bs
     → withControls c (batchRecords n bs)

@@ -1,9 +1,6 @@
 pub mod Pass
 pub mod Blocks
 pub mod Sizes
-pub mod Steps
-pub mod Turns
-pub mod Copying
 pub mod Turned
 pub mod Batches
 pub mod Rest

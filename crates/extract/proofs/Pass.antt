@@ -16,7 +16,7 @@ use Rattle.paper.specs.Reading.{State, start, beforeNext, next, recordsOf, read
 use Rattle.paper.specs.Extract.{Item, Batch, Groups, prepended, grouped, batchesOf, isTo, itemsTo, holding, batchesTo, itemRecords}
 use Rattle.paper.specs.Demands.{Reads}
 use Rattle.paper.proofs.Accepted.{Follows, file-begins, batch-opens, file-ends, first-individual, its-additional, next-individual, batch-closes, judged-facts, first-header, after-last, accepted-facts}
-use Rattle.extract.specs.Picking.{Picking, passing, going, waiting, additionalBy, pickedBy, openedBy, picking, picked, opened}
+use Rattle.picking.specs.Picking.{Picking, passing, going, waiting, additionalBy, pickedBy, openedBy, picking, picked, opened}
 use Rattle.extract.specs.Blocks.{flat}
 
 -- ---- what is left to pick, by the groups of what is left

@@ -11,7 +11,7 @@ use Rattle.paper.specs.declared.record.Tally.{Tally}
 use Rattle.paper.specs.Controls.{zeros, plus}
 use Rattle.paper.specs.Writing.{joined, fileControlOf}
 use Rattle.paper.specs.Buffers.{over}
-use Rattle.paper.specs.Extract.{Batch, batchesOf, batchesTo, itemRecords, extract}
+use Rattle.paper.specs.Extract.{Batch, batchesOf, batchesTo, itemRecords}
 use Rattle.paper.proofs.Accepted.{accepted-facts}
 use Rattle.paper.proofs.Closing.{length-fileControl}
 use Rattle.paper.proofs.Grouping.{BatchesGood, extract-good}
@@ -20,11 +20,14 @@ use Rattle.state.specs.Bounds.{Below}
 use Rattle.state.specs.States.{recordAt}
 use Rattle.state.proofs.Bounds.{below-more, below-plus, below-zeros}
 use Rattle.writing.proofs.Laying.{Wrote, start, on, kept, part-laid, rest-laid}
-use Rattle.extract.specs.Places.{Read, Goes, chosen}
-use Rattle.extract.specs.Blocks.{ownOf, tallied, block, blocksFrom, flat}
+use Rattle.picking.specs.Places.{Read, Goes, chosen}
+use Rattle.batches.specs.Blocks.{ownOf, tallied, block}
+use Rattle.batches.proofs.Own.{own-fewer, tallied-below}
+use Rattle.batches.proofs.Blocks.{length-block}
+use Rattle.extract.specs.Blocks.{blocksFrom, flat}
 use Rattle.extract.proofs.Pass.{picked-batches}
-use Rattle.extract.proofs.Sizes.{items-sized, length-block, tallied-below}
-use Rattle.extract.proofs.Copying.{length-chosen, own-fewer}
+use Rattle.extract.proofs.Sizes.{items-sized}
+use Rattle.picking.proofs.Chosen.{length-chosen}
 use Rattle.extract.proofs.Rest.{blocksTo, blocks-fit, Next, next-batch, first-block}
 
 -- with the batches that are left from index i of the places on

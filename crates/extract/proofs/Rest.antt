@@ -1,6 +1,6 @@
 -- An extract as its file header and its blocks; what is left of the places begins with a batch.
 -- Assumes nothing.
-use Prim.Native.Nat.{ℕ, zero, suc, _+_, _≤_, _<_}
+use Prim.Native.Nat.{ℕ, suc, _+_, _≤_, _<_}
 use mathlib.Core.List.{List, [], _∷_, _++_}
 use mathlib.Core.Path.{_≡_, refl, ap, _∙_}
 use native.Mathlib.Numerals.{add-one}
@@ -18,8 +18,10 @@ use Rattle.paper.proofs.Lists.{joined-append}
 use Rattle.paper.proofs.Regrouping.{length-header}
 use Rattle.paper.proofs.Size.{extract-fits}
 use Rattle.state.specs.States.{recordAt}
-use Rattle.extract.specs.Places.{Read, chosen}
-use Rattle.extract.specs.Blocks.{ownOf, tallied, block, blocksFrom, flat}
+use Rattle.picking.specs.Places.{Read, chosen}
+use Rattle.batches.specs.Blocks.{ownOf, tallied, block}
+use Rattle.extract.specs.Blocks.{blocksFrom, flat}
+use Rattle.picking.proofs.Chosen.{chosen-drop}
 use Rattle.extract.proofs.Blocks.{own-of, closing-blocks}
 
 -- the blocks of an extract, and the file control
@@ -44,11 +46,6 @@ whole-room currency e file out r h = omega (arith, extract-length currency e fil
 -- which together are never longer than the file
 pub blocks-fit : (e : ℕ) (file : List ℕ) → Read file → 94 + length (blocksTo e file) ≤ length file
 blocks-fit e file r = omega (arith, extract-length (r .rules .currency) e file r, extract-fits (r .rules) e file (r .accepts))
-
-chosen-drop : (file places : List ℕ) (n : ℕ) → chosen file (drop n places) ≡ drop n (chosen file places)
-chosen-drop file places zero = refl
-chosen-drop file [] (suc n) = refl
-chosen-drop file (p ∷ ps) (suc n) = chosen-drop file ps n
 
 -- what is left begins with a batch
 pub record Next (file places : List ℕ) (rest : List Batch) : Type 0 where

@@ -1,24 +1,21 @@
--- From the places that were picked to the extract: its size, and the answer.
+-- From the places that were picked to the extract, and its size.
 -- Assumes nothing.
-use Prim.Native.Nat.{ℕ, zero, suc, _+_, _*_, _≤_, _<_}
+use Prim.Native.Nat.{ℕ, zero, suc, _+_, _*_, _≤_}
 use mathlib.Core.List.{List, [], _∷_}
 use mathlib.Core.Path.{_≡_, refl, sym, ap, _∙_}
 use native.Mathlib.Omega.{arith}
-use borrow.Author.Tests.{le-leb, lt-leb}
-use lib.ListN.{length, getD, take, drop, replicate, length-take}
+use lib.ListN.{length, getD, take, replicate}
 use lib.Seq.{length-take-le}
 use Rattle.paper.specs.declared.rules.Currency.{Currency}
-use Rattle.paper.specs.Answers.{accepted, refused, require}
 use Rattle.paper.specs.Controls.{zeros}
 use Rattle.paper.specs.Extract.{batchesOf, batchesTo, extract}
-use Rattle.paper.specs.Buffers.{Outcome, over, written, roomFor}
 use Rattle.paper.proofs.Accepted.{accepted-facts}
 use Rattle.paper.proofs.Grouping.{extract-good}
-use Rattle.extract.specs.declared.picking.Picked.{Picked}
-use Rattle.extract.specs.Places.{Read, Placed, Picks, Goes, chosen}
+use Rattle.picking.specs.declared.Picked.{Picked}
+use Rattle.picking.specs.Places.{Read, Placed, Picks, Goes}
 use Rattle.extract.proofs.Pass.{picked-batches, opened-batches}
 use Rattle.extract.proofs.Sizes.{length-blocks}
-use Rattle.extract.proofs.Copying.{length-chosen}
+use Rattle.picking.proofs.Chosen.{length-chosen}
 use Rattle.extract.proofs.Rest.{extract-length}
 
 -- before the pass: every record has its place
@@ -61,14 +58,3 @@ module _ (e : ℕ) (file : List ℕ) (r : Read file) (p : Picked) (places : List
       let c = sym taken-length ∙ sym (length-chosen file (take (p .count) places)) ∙ ap length (k .records ∙ picked-batches (r .rules) e file (r .accepts)) in
       let b = k .batches ∙ opened-batches (r .rules) e file (r .accepts) in
       extract-length currency e file r ∙ omega (arith, c, b, length-blocks 1 0 zeros bs (extract-good (r .rules) e file (r .accepts)))
-
--- the answer, where the size is known
-module _ (new buffer : List ℕ) {size : ℕ} (e : length new ≡ size) where
-  pub no-room : length buffer < size → record { answer = refused 206 0; written = 0; buffer = buffer } ≡ written (roomFor new buffer) new buffer
-  unfolding written roomFor require
-  no-room h = rw (lt-leb (length new) (length buffer) (omega (arith, e))) refl
-
-  pub has-room : size ≤ length buffer → {after : List ℕ} → after ≡ over new buffer
-      → record { answer = accepted; written = size; buffer = after } ≡ written (roomFor new buffer) new buffer
-  unfolding written roomFor require
-  has-room h a = rw (le-leb (length new) (length buffer) (omega (arith, e)), a, e) refl

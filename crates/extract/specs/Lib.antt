@@ -1,4 +1,2 @@
 pub mod Header
-pub mod Picking
-pub mod Places
 pub mod Blocks

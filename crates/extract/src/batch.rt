@@ -1,21 +1,17 @@
 // A batch of an extract: its header under a new number, its records, and the control that counts them.
 ghost use mathlib.Core.Path.{_≡_};
-ghost use Prim.Native.Nat.{_+_, _*_, _^_, _≤_, _<_};
+ghost use Prim.Native.Nat.{_+_, _*_, _≤_, _<_};
 ghost use lib.ListN.{length, getD, drop};
-ghost use Rattle.paper.specs.Kinds.{kindOf};
 ghost use Rattle.paper.specs.Controls.{zeros};
 ghost use Rattle.paper.specs.Writing.{joined};
 ghost use Rattle.paper.specs.Buffers.{over};
-ghost use Rattle.state.specs.Bounds.{Below};
-ghost use Rattle.state.specs.States.{recordAt, InFile};
-ghost use Rattle.extract.specs.Places.{Placed, chosen};
-ghost use Rattle.extract.specs.Blocks.{opens, ownAt, ownOf, withRecord, tallied, block};
-use field::kind;
-use paper::record::Kind;
+ghost use Rattle.state.specs.States.{recordAt};
+ghost use Rattle.picking.specs.Places.{Placed, chosen};
+ghost use Rattle.batches.specs.Blocks.{ownAt, ownOf, tallied, block};
+use batches::records;
 use paper::record::Tally;
 use state::State;
 use state::tally;
-use writing::records;
 
 // How many records it has of its own, and what its control counts.
 pub struct Batch {
@@ -23,38 +19,14 @@ pub struct Batch {
     pub tally: Tally,
 }
 
-fn opens(rec: &[u8]) -> bool
-    requires { ⌜ 1 ≤ length (now rec) ⌝ }
-    ensures { λ r. ⌜ r ≡ opens (kindOf (now (rec .entry))) ⌝ }
-{
-    match kind::kind(rec) {
-        Kind::BatchHeader => true,
-        _ => false,
-    }
-}
-
-// The record at a place, counted with those before it.
-fn count(tally: Tally, file: &[u8], place: usize) -> Tally
-    requires { ⌜ InFile (now file) place ⌝ }
-    requires { ⌜ Below (10 ^ 18) tally ⌝ }
-    ensures { λ r. ⌜ r ≡ withRecord (kindOf (recordAt (now (file .entry)) place)) tally (recordAt (now (file .entry)) place) ⌝ }
-{
-    let rec = state::record_at(file, place);
-    match kind::kind(rec) {
-        Kind::Individual => tally::with_individual(tally, rec),
-        Kind::Additional => tally::with_additional(tally),
-        _ => tally,
-    }
-}
-
 // Whether there is a record at this index that belongs to the batch.
 fn own_at(file: &[u8], places: &[u16], i: usize) -> bool
     requires { ⌜ (length (now file) ≤ 940000) × Placed (now file) (now places) ⌝ }
-    ensures { λ r. ⌜ r ≡ ownAt (chosen (now (file .entry)) (drop i (now (places .entry)))) ⌝ }
+    ensures { λ r. ⌜ r ≡ ownAt (drop i (chosen (now (file .entry)) (now (places .entry)))) ⌝ }
 {
     if i < places.len() {
         let place = places[i] as usize;
-        return !opens(state::record_at(file, place));
+        return !batches::opens(state::record_at(file, place));
     }
     false
 }
@@ -74,7 +46,7 @@ fn own(dst: &mut [u8], file: &[u8], places: &[u16]) -> Batch
         let rec = state::record_at(file, place);
         let at = i * State::RECORD;
         writing::copy(&mut dst[at..at + State::RECORD], rec);
-        tally = count(tally, file, place);
+        tally = batches::count(tally, state::record_at(file, place));
         i += 1;
     }
     Batch { records: i, tally }

@@ -1,11 +1,8 @@
 // The file header of an extract.
 ghost use mathlib.Core.Path.{_≡_};
-ghost use mathlib.Core.List.{_++_};
 ghost use Prim.Native.Nat.{_+_, _≤_};
 ghost use lib.ListN.{length};
-ghost use Rattle.paper.specs.Fields.{bytes};
 ghost use Rattle.paper.specs.Entities.{currencyAdds};
-ghost use Rattle.paper.specs.Writing.{spelled};
 ghost use Rattle.paper.specs.Extract.{headerFor};
 ghost use Rattle.writing.specs.Laid.{laid};
 ghost use Rattle.extract.specs.Header.{destinationOf};

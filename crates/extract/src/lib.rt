@@ -3,7 +3,8 @@ ghost use mathlib.Core.Path.{_≡_};
 ghost use Prim.Native.Nat.{_≤_};
 ghost use Rattle.paper.specs.Buffers.{told, written, roomFor};
 ghost use Rattle.paper.specs.Extract.{extract};
-ghost use Rattle.extract.specs.Places.{Read};
+ghost use Rattle.picking.specs.Places.{Read};
+use batches::records;
 use paper::answer::Fault;
 use paper::answer::Output;
 use paper::rules::Currency;
@@ -12,7 +13,6 @@ use state::State;
 
 mod batch;
 mod header;
-mod picking;
 mod whole;
 
 // Of a file that the reading accepted. Nothing is written before the size is known.
@@ -25,7 +25,7 @@ pub fn extract(currency: Currency, entity: u64, file: &[u8], out: &mut [u8]) -> 
     let mut places = [0; Picked::MOST];
     let picked = picking::pick(entity, file, &mut places);
     let count = picked.count;
-    let size = (count + picked.batches + 2) * State::RECORD;
+    let size = (count + picked.batches + records::FRAME) * State::RECORD;
     if out.len() < size {
         return Output::Refused(Fault::Room, 0);
     }

@@ -4,13 +4,13 @@ ghost use Prim.Native.Nat.{_≤_};
 ghost use lib.ListN.{length};
 ghost use Rattle.paper.specs.Buffers.{over};
 ghost use Rattle.paper.specs.Extract.{extract};
-ghost use Rattle.extract.specs.Places.{Read, Placed, Goes};
+ghost use Rattle.picking.specs.Places.{Read, Goes};
 use crate::batch;
 use crate::header;
+use batches::records;
 use paper::rules::Currency;
 use state::State;
 use state::tally;
-use writing::records;
 
 pub fn write(out: &mut [u8], currency: Currency, entity: u64, file: &[u8], places: &[u16])
     requires { ⌜ (entity ≤ 499) × Read (now file) × Goes entity (now file) (now places) ⌝ }

@@ -12,11 +12,11 @@ ghost use Rattle.paper.specs.Postings.{ownPostings, signed};
 ghost use Rattle.paper.specs.Sessions.{zeroCell, cellsAfter};
 ghost use Rattle.paper.specs.Demands.{Touched, sessionSides};
 ghost use Rattle.ledger.specs.Sides.{side, sidesInAll};
+use entries::individual;
 use field::entity;
 use field::kind;
 use paper::ledger::Cell;
 use paper::record::Kind;
-use record::individual;
 
 // Signed arithmetic, in leaves of its own.
 fn signed(amount: u64) -> i64

@@ -1,7 +1,7 @@
 -- Lent buffers and sessions: a refusal leaves them as 01 states; where building succeeds, stripping returns the tray.
 use Prim.Native.Nat.{ℕ, _≤_, _%_}
 use native.Mathlib.Omega.{arith}
-use mathlib.Core.Bool.{_&&_}
+use mathlib.Core.Bool.{false, _&&_}
 use mathlib.Core.List.{[], List}
 use mathlib.Core.Path.{_≡_, refl, sym, ap, _∙_}
 use lib.Dec.{eqb, leb, leb→le, le→leb, eqb→eq}
@@ -122,6 +122,12 @@ pub building-stays : (rules : Rules) (header tray buffer : List ℕ) {n place : 
     → building rules header tray buffer ≡ record { answer = refused n place; written = 0; buffer = buffer }
 unfolding building builtIf written
 building-stays rules header tray buffer h = rw h refl
+
+-- a file that would be too long is 201, also where there is no room for it: 201 goes before 206
+pub building-too-long : (rules : Rules) (header tray buffer : List ℕ) → trayAnswer header tray ≡ accepted → lengthGood (length (build header tray)) ≡ false
+    → building rules header tray buffer ≡ record { answer = refused 201 0; written = 0; buffer = buffer }
+unfolding buildable andThen require
+building-too-long rules header tray buffer t l = building-stays rules header tray buffer (rw (t, l) refl)
 
 -- refused by the reading, the bytes that the built file would have taken are spaces
 pub building-spaces : (rules : Rules) (header tray buffer : List ℕ) {n place : ℕ} → buildable header tray buffer ≡ accepted

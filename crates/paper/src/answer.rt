@@ -1,6 +1,9 @@
 // Numbers on the counter.
 ghost use mathlib.Core.Path.{_≡_};
-ghost use Rattle.paper.specs.Answers.{numberOf};
+ghost use mathlib.Core.List.{List};
+ghost use Prim.Native.Nat.{ℕ};
+ghost use Rattle.paper.specs.Answers.{numberOf, said, andThen};
+ghost use Rattle.paper.specs.Buffers.{told};
 
 // A reason to refuse, in the order of the paper's table.
 pub enum Fault {
@@ -72,6 +75,30 @@ impl Fault {
             Fault::Tray => 207,
             Fault::Entity => 208,
             Fault::Identifier => 209,
+        }
+    }
+}
+
+impl Answer {
+    // The first refusal is the answer.
+    pub fn and_then(self, next: Answer) -> Answer
+        ensures { λ r. ⌜ said r ≡ andThen (said self) (said next) ⌝ }
+    {
+        match self {
+            Answer::Accepted => next,
+            Answer::Refused(fault, place) => Answer::Refused(fault, place),
+        }
+    }
+}
+
+impl Output {
+    // An answer that counts no bytes: a refusal, whatever the buffer holds.
+    pub fn unwritten(answer: Answer) -> Output
+        ensures { λ r. ⌜ ((buffer : List ℕ) → told r buffer ≡ record { answer = said answer; written = 0; buffer = buffer }) ⌝ }
+    {
+        match answer {
+            Answer::Accepted => Output::Accepted(0),
+            Answer::Refused(fault, place) => Output::Refused(fault, place),
         }
     }
 }

@@ -9,8 +9,8 @@ use crate::State;
 use crate::Step;
 use crate::record_at;
 use crate::tally;
+use controls::batch_control;
 use paper::record::Before;
-use record::batch_control;
 use record::verdict::Verdict;
 
 pub fn step(file: &[u8], place: usize, state: State) -> Step

@@ -9,9 +9,9 @@ use crate::State;
 use crate::Step;
 use crate::record_at;
 use crate::tally;
+use headers::batch_header;
 use paper::record::Before;
 use paper::rules::Terms;
-use record::batch_header;
 use record::verdict::Verdict;
 
 pub fn step(terms: Terms, roster: &[bool; 500], file: &[u8], place: usize, state: State) -> Step

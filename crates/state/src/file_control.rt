@@ -8,8 +8,8 @@ ghost use Rattle.state.specs.States.{recordAt, heard, stepped, InFile, R
 use crate::State;
 use crate::Step;
 use crate::record_at;
+use controls::file_control;
 use paper::record::Before;
-use record::file_control;
 use record::verdict::Verdict;
 
 pub fn step(file: &[u8], place: usize, state: State) -> Step

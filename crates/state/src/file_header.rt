@@ -8,9 +8,9 @@ ghost use Rattle.state.specs.States.{recordAt, heard, stepped, InFile, R
 use crate::State;
 use crate::Step;
 use crate::record_at;
+use headers::file_header;
 use paper::record::Before;
 use paper::rules::Terms;
-use record::file_header;
 use record::verdict::Verdict;
 
 pub fn step(terms: Terms, roster: &[bool; 500], file: &[u8], place: usize, state: State) -> Step

@@ -10,10 +10,10 @@ use crate::Step;
 use crate::flag;
 use crate::record_at;
 use crate::tally;
+use entries::individual;
 use field::number;
 use field::text;
 use paper::rules::Terms;
-use record::individual;
 use record::verdict::Verdict;
 
 pub fn step(terms: Terms, roster: &[bool; 500], file: &[u8], place: usize, state: State) -> Step

@@ -41,8 +41,10 @@ pub enum Step {
 impl State {
     // Bytes of a record.
     pub const RECORD: usize = 94;
+    // Records of a file, at most.
+    pub const MOST: usize = 10000;
     // A place that no file has.
-    const NOWHERE: usize = 10000;
+    const NOWHERE: usize = State::MOST;
     // Before the first record.
     pub const START: State = State {
         before: Before::Nothing,

@@ -5,10 +5,10 @@ ghost use Prim.Native.Nat.{_^_, _≤_};
 ghost use lib.ListN.{length};
 ghost use Rattle.paper.specs.Controls.{plus, withIndividual, withAdditional};
 ghost use Rattle.state.specs.Bounds.{Below};
+use entries::individual;
 use field::kind;
 use field::number;
 use paper::record::Tally;
-use record::individual;
 
 pub const NONE: Tally = Tally {
     records: 0,

@@ -2,4 +2,4 @@ pub mod Stores
 pub mod Decimals
 pub mod Signs
 pub mod Laying
-pub mod Controls
+pub mod Answers

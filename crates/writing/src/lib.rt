@@ -7,8 +7,6 @@ ghost use Rattle.paper.specs.Writing.{spelled, blanks};
 ghost use Rattle.paper.specs.Listing.{width, decimal, signedDecimal};
 ghost use Rattle.writing.specs.Laid.{laid};
 
-pub mod records;
-
 // A text over a part of its length.
 pub fn copy(part: &mut [u8], text: &[u8])
     requires { ⌜ length (now part) ≡ length (now text) ⌝ }

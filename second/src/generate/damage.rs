@@ -50,6 +50,40 @@ pub fn put_fault(random: &mut Random, draft: &mut Draft) -> Answer {
     fault.refusal()
 }
 
+/// One fault in a record of these kinds, in a field that building leaves as it is.
+pub fn put_body_fault(random: &mut Random, draft: &mut Draft, kinds: &[Kind]) -> Answer {
+    let fault = any_body_fault(random, draft, kinds);
+    apply(random, draft, &fault);
+    drop_unflagged_additional(random, draft, fault.place);
+    fault.refusal()
+}
+
+/// All rows alike half of the time, otherwise all numbers alike.
+fn any_body_fault(random: &mut Random, draft: &Draft, kinds: &[Kind]) -> Fault {
+    let present = kinds
+        .iter()
+        .filter(|kind| draft.records.iter().any(|record| kind.is(record)));
+    let mut rows: Vec<(Kind, usize)> = present
+        .flat_map(|&kind| (0..kind.checks().len()).map(move |rank| (kind, rank)))
+        .filter(|&(kind, rank)| kind.checks()[rank].is_of_body())
+        .collect();
+    let number = |&(kind, rank): &(Kind, usize)| kind.checks()[rank].number;
+    if random.once_in(2) {
+        let mut numbers: Vec<u16> = rows.iter().map(number).collect();
+        numbers.sort();
+        numbers.dedup();
+        let wanted = *random.pick(&numbers);
+        rows.retain(|row| number(row) == wanted);
+    }
+    let (kind, rank) = *random.pick(&rows);
+    Fault {
+        kind,
+        rank,
+        way: *random.pick(kind.checks()[rank].ways),
+        place: *random.pick(&draft.places(|record| kind.is(record))),
+    }
+}
+
 pub fn two_faults_in_one_record(random: &mut Random) -> Case {
     let mut draft = file_with_batches(random);
     let first = any_fault(random, &draft);

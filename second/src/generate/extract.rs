@@ -7,14 +7,13 @@ use super::addressed::{
 use super::desk::damaged_copy;
 use super::draft::get_number;
 use super::meant::extract_length;
-use super::opening::{accepted, of_no_date, of_no_entity, refused, shuffle, Opened};
+use super::opening::{opening_for, refused_opening};
 use super::random::Random;
+use super::room::{any_size, filled};
 use super::{generate, large, Answer, Case, EXTRACTS};
 use crate::day::Opening;
-use crate::extract::Extracted;
-use crate::fields::is_date;
 use crate::reading::RECORD;
-use crate::Rules;
+use crate::{Rules, Written};
 
 /// One extraction, with the answer that was meant where it is known.
 pub struct ExtractCase {
@@ -47,7 +46,7 @@ pub fn generate_extract(seed: u64, number: u64) -> ExtractCase {
     let mut random = Random::new(seed, EXTRACTS + number);
     let source = source(&mut random, seed, number);
     let opened = if number >= LARGE && random.once_in(24) {
-        refused_opening(&mut random, &source)
+        refused_opening(&mut random, &source.rules)
     } else {
         opening_for(&mut random, &source.rules)
     };
@@ -171,37 +170,6 @@ fn large_source(random: &mut Random, number: u64) -> Source {
     good("10,000 records", addressed)
 }
 
-/// An opening that gives these rules, unless no opening does.
-fn opening_for(random: &mut Random, rules: &Rules) -> Opened {
-    let mut entities: Vec<u64> = (1..500)
-        .filter(|&entity| rules.roster[entity as usize])
-        .collect();
-    if random.once_in(3) {
-        entities.extend_from_within(..entities.len().min(3));
-        shuffle(random, &mut entities);
-    }
-    let opening = Opening {
-        date: rules.date,
-        currency: rules.currency,
-        entities,
-    };
-    if is_date(rules.date) {
-        accepted("opening", opening)
-    } else {
-        refused("no date", opening, 75)
-    }
-}
-
-/// The session is then that of 000101, pesos, nobody, and sometimes the file would suit it but for the roster.
-fn refused_opening(random: &mut Random, source: &Source) -> Opened {
-    let opening = opening_for(random, &source.rules).opening;
-    if random.once_in(2) {
-        of_no_date(random, opening, "no date")
-    } else {
-        of_no_entity(random, opening)
-    }
-}
-
 /// Those whom the file names for the most part; then others, and numbers of nobody.
 fn any_entity(random: &mut Random, source: &Source, rules: &Rules) -> u64 {
     let addressees = named(&source.file, b'6', 4);
@@ -269,33 +237,6 @@ fn on_roster(random: &mut Random, rules: &Rules, listed: bool) -> u64 {
     any_of(random, &wanted)
 }
 
-/// Around the extract's length, and far from it.
-fn any_size(random: &mut Random, length: usize) -> usize {
-    let shorter = random.below(length);
-    let more = random.between(1, 300);
-    match random.below(20) {
-        0..=6 => length,
-        7 | 8 => length + 1,
-        9 | 10 => length + more,
-        11 => length + RECORD,
-        12 => length + 5_000,
-        13 | 14 => length - 1,
-        15 => length - RECORD,
-        16 => 0,
-        17 => 1,
-        _ => shorter,
-    }
-}
-
-/// Any bytes, so that those that stay are seen.
-fn filled(random: &mut Random, size: usize) -> Vec<u8> {
-    let mut bytes: Vec<u8> = (0..size.div_ceil(8))
-        .flat_map(|_| random.draw().to_le_bytes())
-        .collect();
-    bytes.truncate(size);
-    bytes
-}
-
 impl ExtractCase {
     /// The same extraction for somebody else, into a buffer that takes any extract of the file.
     pub fn for_entity(&self, entity: u64) -> ExtractCase {
@@ -311,10 +252,10 @@ impl ExtractCase {
     }
 
     /// What it leaves behind in the second program.
-    pub fn run(&self) -> Extracted {
+    pub fn run(&self) -> Written {
         let (_, session) = self.opening.open();
-        let mut buffer = self.buffer.clone();
-        let answer = session.extract(self.entity, &self.file, &mut buffer);
-        Extracted { answer, buffer }
+        Written::by(&self.buffer, |lent| {
+            session.extract(self.entity, &self.file, lent)
+        })
     }
 }

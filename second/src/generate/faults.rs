@@ -27,6 +27,14 @@ impl Kind {
         Kind::FileControl,
     ];
 
+    /// Those whose records a tray holds.
+    pub const IN_TRAY: [Kind; 4] = [
+        Kind::BatchHeader,
+        Kind::Individual,
+        Kind::Motive,
+        Kind::Concept,
+    ];
+
     pub fn is(self, record: &Record) -> bool {
         match self {
             Kind::FileHeader => record[0] == b'1',
@@ -63,6 +71,13 @@ pub struct Check {
     pub from: usize,
     pub to: usize,
     pub ways: &'static [Way],
+}
+
+impl Check {
+    /// Its field lies between the type and the number, so that a tray keeps it and its form.
+    pub fn is_of_body(&self) -> bool {
+        self.from > 1 && self.to < 88
+    }
 }
 
 #[derive(Clone, Copy, Debug)]

@@ -5,7 +5,7 @@ use crate::reading::RECORD;
 use crate::Rules;
 
 /// The records of bytes that may be no file; what is left over at the end is none.
-fn records_of(file: &[u8]) -> Vec<Record> {
+pub fn records_of(file: &[u8]) -> Vec<Record> {
     let whole = file.chunks_exact(RECORD);
     whole
         .map(|record| std::array::from_fn(|index| record[index]))
@@ -71,7 +71,7 @@ pub fn extract_of(rules: &Rules, entity: u64, file: &[u8]) -> Vec<u8> {
     draft.bytes()
 }
 
-fn blank(kind: u8) -> Record {
+pub fn blank(kind: u8) -> Record {
     let mut record = [b' '; RECORD];
     record[0] = kind;
     record

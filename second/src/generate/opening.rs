@@ -4,6 +4,7 @@ use super::faults::NO_DATES;
 use super::good::any_date;
 use super::random::Random;
 use crate::day::Opening;
+use crate::fields::is_date;
 use crate::{Currency, Refusal, Rules};
 
 /// An opening, its answer, and what the files presented afterwards meet.
@@ -161,5 +162,36 @@ fn some(random: &mut Random, count: usize) -> Vec<u64> {
 pub fn shuffle<T>(random: &mut Random, list: &mut [T]) {
     for last in (1..list.len()).rev() {
         list.swap(last, random.below(last + 1));
+    }
+}
+
+/// An opening that gives these rules, unless no opening does.
+pub fn opening_for(random: &mut Random, rules: &Rules) -> Opened {
+    let mut entities: Vec<u64> = (1..500)
+        .filter(|&entity| rules.roster[entity as usize])
+        .collect();
+    if random.once_in(3) {
+        entities.extend_from_within(..entities.len().min(3));
+        shuffle(random, &mut entities);
+    }
+    let opening = Opening {
+        date: rules.date,
+        currency: rules.currency,
+        entities,
+    };
+    if is_date(rules.date) {
+        accepted("opening", opening)
+    } else {
+        refused("no date", opening, 75)
+    }
+}
+
+/// The session is then that of 000101, pesos, nobody, and sometimes the file would suit it but for the roster.
+pub fn refused_opening(random: &mut Random, rules: &Rules) -> Opened {
+    let opening = opening_for(random, rules).opening;
+    if random.once_in(2) {
+        of_no_date(random, opening, "no date")
+    } else {
+        of_no_entity(random, opening)
     }
 }

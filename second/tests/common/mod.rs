@@ -3,6 +3,8 @@
 // Each test file takes its part of these.
 #![allow(dead_code)]
 
+pub mod trays;
+
 use second::{read, Currency, Refusal, Rules};
 
 pub type Record = [u8; 94];

@@ -1,9 +1,10 @@
 use Prim.Native.Nat.{_-_}
-use mathlib.Core.Path.{_≡_, refl, sym, ap, _∙_}
+use mathlib.Core.Path.{refl}
 use borrow.Author.Needs.{needs}
 use native.Mathlib.Omega.{arith}
 use Rattle.paper.specs.Extract.{extract}
-use Rattle.extract.proofs.Taking.{nothing-placed, count-bounds, goes, size-known, no-room, has-room}
+use Rattle.writing.proofs.Answers.{no-room, has-room}
+use Rattle.extract.proofs.Taking.{nothing-placed, count-bounds, goes, size-known}
 use Rattle.extract.proofs.extract.Statement.{statement}
 use Rattle.extract.proofs.extract.Tie as tie
 

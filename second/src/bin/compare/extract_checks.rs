@@ -1,6 +1,7 @@
 //! What holds of extracts by the paper, whichever program made them.
 
-use crate::extracts::by_proved;
+use crate::extract_reach::Reach;
+use crate::jobs::Job;
 use second::generate::extract::ExtractCase;
 use second::generate::meant::{extract_length, extract_of};
 use second::proved;
@@ -57,7 +58,7 @@ pub fn shared_out(case: &ExtractCase) -> Result<u64, String> {
 
 /// By both programs, which must agree.
 fn extract_for(case: &ExtractCase) -> Result<Vec<u8>, String> {
-    let (ours, theirs) = (case.run(), by_proved(case)?);
+    let (ours, theirs) = (case.run(), Reach::by_proved(case)?);
     if ours != theirs {
         return Err(format!("the two differ for entity {}", case.entity));
     }

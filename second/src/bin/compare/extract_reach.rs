@@ -1,11 +1,10 @@
 //! What the extractions of a run have reached, and how often they must.
 
-use crate::reach::{enough, reached};
-use second::extract::Extracted;
+use crate::reach::Counts;
 use second::generate::extract::ExtractCase;
 use second::generate::meant::extract_length;
-use second::{read, Currency};
-use std::collections::{BTreeMap, BTreeSet};
+use second::{read, Currency, Written};
+use std::collections::BTreeSet;
 
 /// A run that is shorter, or hardly reaches some of these, shows little.
 const LEAST: [(&str, u64); 54] = [
@@ -77,7 +76,7 @@ const LEAST_LARGE: [(&str, u64); 6] = [
 
 #[derive(Default)]
 pub struct Reach {
-    counts: BTreeMap<String, u64>,
+    counts: Counts,
 }
 
 /// The parts of an accepted file that concern the entity.
@@ -97,33 +96,22 @@ struct Handed {
 }
 
 impl Reach {
-    fn saw(&mut self, name: &str) {
-        self.add(name, 1);
-    }
-
-    fn saw_if(&mut self, name: &str, holds: bool) {
-        self.add(name, u64::from(holds));
-    }
-
-    fn add(&mut self, name: &str, count: u64) {
-        *self.counts.entry(name.into()).or_default() += count;
-    }
-
     pub fn everybody(&mut self, entities: u64) {
-        self.add("made for everybody on the roster", entities);
+        self.counts
+            .add("made for everybody on the roster", entities);
     }
 
-    pub fn count(&mut self, case: &ExtractCase, left: &Extracted) {
-        self.saw("extracts");
+    pub fn count(&mut self, case: &ExtractCase, left: &Written) {
+        self.counts.saw("extracts");
         let needed = extract_length(&case.rules, case.entity, &case.file);
         match left.answer {
             Ok(length) => self.count_accepted(case, length),
             Err(refusal) => {
-                self.saw(&format!("refused {}", refusal.number));
+                self.counts.saw(&format!("refused {}", refusal.number));
                 match refusal.number {
                     206 => self.count_206(case.buffer.len(), needed),
                     208 => self.count_208(case, needed),
-                    _ => self.saw_if(
+                    _ => self.counts.saw_if(
                         "a refused file and too small a buffer",
                         case.buffer.len() < needed,
                     ),
@@ -133,65 +121,85 @@ impl Reach {
     }
 
     fn count_206(&mut self, lent: usize, needed: usize) {
-        self.saw_if("206 with no byte lent", lent == 0);
-        self.saw_if("206 with one byte lent", lent == 1);
-        self.saw_if("206 with one byte missing", lent + 1 == needed);
-        self.saw_if("206 with one record missing", lent + 94 == needed);
+        self.counts.saw_if("206 with no byte lent", lent == 0);
+        self.counts.saw_if("206 with one byte lent", lent == 1);
+        self.counts
+            .saw_if("206 with one byte missing", lent + 1 == needed);
+        self.counts
+            .saw_if("206 with one record missing", lent + 94 == needed);
     }
 
     fn count_208(&mut self, case: &ExtractCase, needed: usize) {
         let entity = case.entity;
         let nobody = !(1..=499).contains(&entity);
         let opened = case.opening.open().0.is_ok();
-        self.saw_if("208 for a number of nobody", nobody);
-        self.saw_if("208 for 0", entity == 0);
-        self.saw_if("208 for 500", entity == 500);
-        self.saw_if("208 beyond 32 bits", entity > u64::from(u32::MAX));
-        self.saw_if("208 for one not on the roster", !nobody && opened);
-        self.saw_if("208 after a refused opening", !nobody && !opened);
+        self.counts.saw_if("208 for a number of nobody", nobody);
+        self.counts.saw_if("208 for 0", entity == 0);
+        self.counts.saw_if("208 for 500", entity == 500);
+        self.counts
+            .saw_if("208 beyond 32 bits", entity > u64::from(u32::MAX));
+        self.counts
+            .saw_if("208 for one not on the roster", !nobody && opened);
+        self.counts
+            .saw_if("208 after a refused opening", !nobody && !opened);
         let refused = opened && read(&case.rules, &case.file).is_err();
-        self.saw_if("208 and a refused file", refused);
-        self.saw_if("208 and too small a buffer", case.buffer.len() < needed);
+        self.counts.saw_if("208 and a refused file", refused);
+        self.counts
+            .saw_if("208 and too small a buffer", case.buffer.len() < needed);
     }
 
     fn count_accepted(&mut self, case: &ExtractCase, length: usize) {
-        self.saw("accepted");
+        self.counts.saw("accepted");
         match case.rules.currency {
-            Currency::Pesos => self.saw("accepted in pesos"),
-            Currency::Dollars => self.saw("accepted in dollars"),
+            Currency::Pesos => self.counts.saw("accepted in pesos"),
+            Currency::Dollars => self.counts.saw("accepted in dollars"),
         }
         let over = case.buffer.len() - length;
-        self.saw_if("accepted into exactly its length", over == 0);
-        self.saw_if("accepted with one byte over", over == 1);
-        self.saw_if("accepted with much over", over >= 1_000);
+        self.counts
+            .saw_if("accepted into exactly its length", over == 0);
+        self.counts.saw_if("accepted with one byte over", over == 1);
+        self.counts.saw_if("accepted with much over", over >= 1_000);
         let header = &case.file[..94];
-        self.saw_if("names that differ", header[40..63] != header[63..86]);
-        self.saw_if("for entity 1 or 499", matches!(case.entity, 1 | 499));
-        self.saw_if("header and control only", case.file.len() == 188);
-        self.saw_if("from 10000 records", case.file.len() == 940_000);
+        self.counts
+            .saw_if("names that differ", header[40..63] != header[63..86]);
+        self.counts
+            .saw_if("for entity 1 or 499", matches!(case.entity, 1 | 499));
+        self.counts
+            .saw_if("header and control only", case.file.len() == 188);
+        self.counts
+            .saw_if("from 10000 records", case.file.len() == 940_000);
         let digits = digits(case);
-        self.saw_if("the entity is the origin", header[14..18] == digits);
+        self.counts
+            .saw_if("the entity is the origin", header[14..18] == digits);
         let handed = self.count_records(&case.file, &digits);
         self.count_handed(&handed, &digits);
     }
 
     fn count_handed(&mut self, handed: &Handed, digits: &[u8]) {
         let Handed { batches, held, .. } = *handed;
-        self.saw_if("nothing for the entity", held == 0);
-        self.saw_if("every batch of several", batches > 1 && held == batches);
-        self.saw_if("some batches of several", held > 1 && held < batches);
-        self.saw_if("one batch of several", held == 1 && batches > 1);
-        self.saw_if("more than 1000 batches", held > 1_000);
-        self.saw_if("at several branches", handed.branches.len() > 1);
-        self.saw_if("from several senders", handed.senders.len() > 1);
+        self.counts.saw_if("nothing for the entity", held == 0);
+        self.counts
+            .saw_if("every batch of several", batches > 1 && held == batches);
+        self.counts
+            .saw_if("some batches of several", held > 1 && held < batches);
+        self.counts
+            .saw_if("one batch of several", held == 1 && batches > 1);
+        self.counts.saw_if("more than 1000 batches", held > 1_000);
+        self.counts
+            .saw_if("at several branches", handed.branches.len() > 1);
+        self.counts
+            .saw_if("from several senders", handed.senders.len() > 1);
         let itself = handed.senders.iter().any(|sender| &sender[..4] == digits);
-        self.saw_if("from the entity itself", itself);
+        self.counts.saw_if("from the entity itself", itself);
         let beyond = |total| total > 9_999_999_999;
-        self.saw_if("totals beyond ten digits", beyond(handed.total));
+        self.counts
+            .saw_if("totals beyond ten digits", beyond(handed.total));
         let in_batch = beyond(handed.batch_total);
-        self.saw_if("batch totals beyond ten digits", in_batch);
+        self.counts
+            .saw_if("batch totals beyond ten digits", in_batch);
         let largest = handed.debits.max(handed.credits);
-        self.saw_if("sums of twelve digits", largest > 99_999_999_999);
+        self.counts
+            .saw_if("sums of twelve digits", largest > 99_999_999_999);
     }
 
     /// Goes through the records of an accepted file.
@@ -212,9 +220,10 @@ impl Reach {
                     handed.held += u64::from(holds);
                     let number = format!("{:07}", handed.held);
                     let anew = &header[87..94] != number.as_bytes();
-                    self.saw_if("batches numbered anew", holds && anew);
+                    self.counts.saw_if("batches numbered anew", holds && anew);
                     let filled = record[54..79].iter().any(|&byte| byte != b' ');
-                    self.saw_if("controls with free positions filled", holds && filled);
+                    self.counts
+                        .saw_if("controls with free positions filled", holds && filled);
                 }
                 _ => {}
             }
@@ -224,19 +233,17 @@ impl Reach {
 
     fn count_individual(&mut self, record: &[u8]) {
         let code = String::from_utf8_lossy(&record[1..3]);
-        self.saw(&format!("{code} handed over"));
-        self.saw_if("with 01", &record[76..78] == b"01");
-        self.saw_if("37 with additional", code == "37" && record[78] == b'1');
-        self.saw_if("37 without additional", record[78] == b'0');
+        self.counts.saw(&format!("{code} handed over"));
+        self.counts.saw_if("with 01", &record[76..78] == b"01");
+        self.counts
+            .saw_if("37 with additional", code == "37" && record[78] == b'1');
+        self.counts
+            .saw_if("37 without additional", record[78] == b'0');
     }
 
     pub fn judge(&self) -> bool {
-        let count = |name: &str| self.counts.get(name).copied().unwrap_or(0);
-        let all = LEAST.iter().chain(&LEAST_LARGE);
-        let all: Vec<_> = all
-            .map(|&(name, least)| reached(name, count(name), least))
-            .collect();
-        enough(&all)
+        self.counts
+            .judge(&[LEAST.as_slice(), &LEAST_LARGE].concat())
     }
 }
 

@@ -1,4 +1,4 @@
-//! `compare SEED FILES DAYS LISTINGS EXTRACTS`: both programs on generated input, until they differ.
+//! `compare SEED FILES DAYS LISTINGS EXTRACTS TRAYS STRIPS`: both programs on generated input, until they differ.
 
 use std::process::ExitCode;
 
@@ -11,11 +11,25 @@ mod extract_reach;
 #[cfg(not(without_proved_library))]
 mod extracts;
 #[cfg(not(without_proved_library))]
+mod jobs;
+#[cfg(not(without_proved_library))]
 mod listings;
 #[cfg(not(without_proved_library))]
 mod reach;
 #[cfg(not(without_proved_library))]
 mod readings;
+#[cfg(not(without_proved_library))]
+mod round_trips;
+#[cfg(not(without_proved_library))]
+mod strip_reach;
+#[cfg(not(without_proved_library))]
+mod strips;
+#[cfg(not(without_proved_library))]
+mod tray_least;
+#[cfg(not(without_proved_library))]
+mod tray_reach;
+#[cfg(not(without_proved_library))]
+mod trays;
 
 #[cfg(without_proved_library)]
 fn main() -> ExitCode {
@@ -23,6 +37,7 @@ fn main() -> ExitCode {
     ExitCode::from(2)
 }
 
+/// Each part says its numbers; the first difference, or the first part that shows too little, ends the run.
 #[cfg(not(without_proved_library))]
 fn main() -> ExitCode {
     let arguments: Result<Vec<u64>, _> = std::env::args()
@@ -30,23 +45,29 @@ fn main() -> ExitCode {
         .map(|argument| argument.parse())
         .collect();
     match arguments.as_deref() {
-        Ok(&[seed, files, days, listings, extracts]) => run(seed, files, days, listings, extracts),
+        Ok(&[seed, files, days, listings, extracts, trays, strips]) => {
+            // Said first, so that a run that breaks off can be made again.
+            println!(
+                "seed {seed}, {files} files, {days} days, {listings} listings, {extracts} extracts, \
+                 {trays} trays, {strips} strips"
+            );
+            let good = readings::run(seed, files)
+                && days::run(seed, days)
+                && listings::run(seed, listings)
+                && jobs::run::<extract_reach::Reach>(seed, extracts)
+                && jobs::run::<tray_reach::Reach>(seed, trays)
+                && jobs::run::<strip_reach::Reach>(seed, strips);
+            exit_code(good)
+        }
         _ => {
-            eprintln!("usage: compare SEED FILES DAYS LISTINGS EXTRACTS");
+            eprintln!("usage: compare SEED FILES DAYS LISTINGS EXTRACTS TRAYS STRIPS");
             ExitCode::from(2)
         }
     }
 }
 
-/// Each part says its numbers; the first difference, or the first part that shows too little, ends the run.
 #[cfg(not(without_proved_library))]
-fn run(seed: u64, files: u64, days: u64, listings: u64, extracts: u64) -> ExitCode {
-    // Said first, so that a run that breaks off can be made again.
-    println!("seed {seed}, {files} files, {days} days, {listings} listings, {extracts} extracts");
-    let good = readings::run(seed, files)
-        && days::run(seed, days)
-        && listings::run(seed, listings)
-        && extracts::run(seed, extracts);
+fn exit_code(good: bool) -> ExitCode {
     if good {
         ExitCode::SUCCESS
     } else {

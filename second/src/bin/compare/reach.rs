@@ -1,5 +1,6 @@
 //! What the parts of a comparison share: times, what was reached, and files that differed.
 
+use std::collections::BTreeMap;
 use std::time::{Duration, Instant};
 
 #[derive(Default)]
@@ -49,6 +50,58 @@ pub fn enough(all: &[Reached]) -> bool {
         }
     }
     good
+}
+
+/// How often each thing came up, by name.
+#[derive(Default)]
+pub struct Counts {
+    counts: BTreeMap<String, u64>,
+}
+
+impl Counts {
+    pub fn saw(&mut self, name: &str) {
+        self.add(name, 1);
+    }
+
+    pub fn saw_if(&mut self, name: &str, holds: bool) {
+        self.add(name, u64::from(holds));
+    }
+
+    pub fn add(&mut self, name: &str, count: u64) {
+        *self.counts.entry(name.into()).or_default() += count;
+    }
+
+    /// Whether each of these came up so often.
+    pub fn judge(&self, least: &[(&'static str, u64)]) -> bool {
+        let count = |name: &str| self.counts.get(name).copied().unwrap_or(0);
+        let all = least.iter();
+        let all: Vec<_> = all
+            .map(|&(name, least)| reached(name, count(name), least))
+            .collect();
+        enough(&all)
+    }
+}
+
+/// The records of the buffer in which the two programs differ.
+pub fn show_bytes(record: usize, before: &[u8], ours: &[u8], theirs: &[u8]) {
+    let parts = before.chunks(record).zip(ours.chunks(record));
+    let different = parts
+        .zip(theirs.chunks(record))
+        .enumerate()
+        .filter(|(_, ((_, ours), theirs))| ours != theirs);
+    for (place, ((before, ours), theirs)) in different.take(10) {
+        println!("{place:5} before {}", before.escape_ascii());
+        println!("      second {}", ours.escape_ascii());
+        println!("      proved {}", theirs.escape_ascii());
+    }
+}
+
+/// The first records of a file or a tray.
+pub fn show_records(name: &str, record: usize, bytes: &[u8]) {
+    println!("{name}, {} bytes:", bytes.len());
+    for (place, record) in bytes.chunks(record).enumerate().take(400) {
+        println!("{place:5} {}", record.escape_ascii());
+    }
 }
 
 /// Keeps bytes that made a difference.

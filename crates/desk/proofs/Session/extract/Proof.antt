@@ -13,12 +13,12 @@ returns c = not-listed _ _ _ _ (sym (c .before .is-listed .ensures) ∙ not-true
 returns-2 : tie.Need-returns-2
 unfolding said
 returns-2 c =
-    let r = c .before .before .before in
+    let r = c .before .before .before .before in
     let t = r .before .before .before .before in
     let listed = sym (t .before .is-listed .ensures) ∙ not-false _ (t .if1 .left) in
     let h = rw (r .before .before .before .terms .ensures) at (r .read .ensures .0) in
-    let e = c .before .enum-told2 .given .1 in
-    c .unwritten .ensures _ ∙ rw e (not-read _ _ _ _ listed (sym h ∙ ap said e))
+    let e = c .before .before .enum-told2 .given .1 in
+    c .unwritten .ensures _ ∙ rw (c .before .of-reading .ensures, e) (not-read _ _ _ _ listed (sym h ∙ ap said e))
 
 extract-requires : tie.Need-extract-requires
 unfolding said
@@ -45,7 +45,7 @@ extract-spec =
     (tie.spec
     (λ c κs. search needs)
     returns
-    (λ c κs. search needs) (λ c κs. search needs) (λ c. search needs) (λ c. search needs) (λ c κs. search needs)
+    (λ c κs. search needs) (λ c κs. search needs) (λ c. search needs) (λ c. search needs) (λ c κs. search needs) (λ c κs. search needs)
     returns-2
     extract-requires
     (λ c. search needs)

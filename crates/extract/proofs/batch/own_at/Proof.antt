@@ -1,10 +1,9 @@
-use Prim.Native.Nat.{_≤_, _<_}
-use mathlib.Core.Path.{sym, ap, _∙_}
 use borrow.Author.Needs.{needs}
 use native.Mathlib.Omega.{arith}
-use Rattle.paper.specs.Kinds.{kindOf}
-use Rattle.extract.specs.Blocks.{opens}
-use Rattle.extract.proofs.Copying.{own-there, none-there}
+use Rattle.batches.specs.Blocks.{opens}
+use Rattle.batches.proofs.Own.{own-there, none-there}
+use Rattle.picking.specs.Places.{chosen}
+use Rattle.picking.proofs.Chosen.{length-chosen, at-index}
 use Rattle.extract.proofs.batch.own_at.Statement.{statement}
 use Rattle.extract.proofs.batch.own_at.Tie as tie
 
@@ -17,10 +16,12 @@ record-at-requires c κs = let s = c .before .before .before .before in (s .pre 
 returns : tie.Need-returns
 returns c =
     let s = c .before .before .before .before .before .before in
-    own-there _ _ _ (c .before .before .before .if1 .taken) _ (rw (c .before .record-at .ensures .0) at (c .opens .ensures))
+    own-there (chosen (s .args .file .now) (s .args .places .now)) (s .args .i) (at-index (s .args .file .now) (s .args .places .now) (s .args .i) (c .before .before .before .if1 .taken)) _ (rw (c .before .record-at .ensures .0) at (c .opens .ensures))
 
 returns-2 : tie.Need-returns-2
-returns-2 c = none-there _ _ _ (c .if1 .left)
+returns-2 c =
+    let s = c .before .before .before in
+    none-there (chosen (s .args .file .now) (s .args .places .now)) (s .args .i) (omega (arith, c .if1 .left, length-chosen (s .args .file .now) (s .args .places .now)))
 
 pub own-at-spec : {M : Type 1} → statement M
 own-at-spec =

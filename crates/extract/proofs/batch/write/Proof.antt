@@ -1,6 +1,6 @@
-use Prim.Native.Nat.{ℕ, _+_, _*_, _≤_}
+use Prim.Native.Nat.{ℕ, _+_}
 use mathlib.Core.List.{List, _++_}
-use mathlib.Core.Path.{_≡_, refl, sym, ap, _∙_}
+use mathlib.Core.Path.{_≡_, sym, ap, _∙_}
 use borrow.Author.Needs.{needs}
 use native.Mathlib.Omega.{arith}
 use lib.ListN.{length, getD, drop, length-drop}
@@ -10,9 +10,11 @@ use Rattle.paper.proofs.Closing.{length-batchControl}
 use Rattle.paper.proofs.Lists.{length-numbered}
 use Rattle.state.specs.States.{recordAt}
 use Rattle.writing.proofs.Laying.{whole}
-use Rattle.extract.specs.Places.{chosen}
-use Rattle.extract.specs.Blocks.{ownOf, block}
-use Rattle.extract.proofs.Batches.{rest-of, placed-rest, rest-sized, rest-fewer, own-room, control-room, batch-wrote, block-bytes}
+use Rattle.picking.specs.Places.{chosen}
+use Rattle.batches.specs.Blocks.{ownOf, block}
+use Rattle.batches.proofs.Blocks.{block-bytes}
+use Rattle.batches.proofs.Parts.{rest-of, own-room, control-room, batch-wrote}
+use Rattle.extract.proofs.Batches.{placed-rest, rest-sized, rest-fewer}
 use Rattle.extract.proofs.batch.write.Statement.{statement}
 use Rattle.extract.proofs.batch.write.Tie as tie
 

@@ -1,19 +1,20 @@
-use Prim.Native.Nat.{ℕ, _+_, _-_, _*_, _≤_}
+use Prim.Native.Nat.{ℕ, _+_, _-_, _≤_}
 use mathlib.Core.List.{List, _++_}
-use mathlib.Core.Path.{_≡_, refl, sym, ap, _∙_}
+use mathlib.Core.Path.{_≡_, sym, ap, _∙_}
 use borrow.Author.Needs.{needs}
 use borrow.Rule.Slice.PartMut.{mid-len}
 use native.Mathlib.Omega.{arith}
-use lib.ListN.{length, take, drop, length-append, length-drop}
+use lib.ListN.{length, length-drop}
 use lib.Seq.{length-take-le}
 use Rattle.paper.specs.Buffers.{over}
-use Rattle.paper.specs.Extract.{headerFor, extract}
+use Rattle.paper.specs.Extract.{extract}
 use Rattle.paper.proofs.Accepted.{accepted-facts}
 use Rattle.paper.proofs.Regrouping.{length-header}
 use Rattle.state.specs.States.{recordAt}
 use Rattle.state.proofs.Bounds.{below-more}
-use Rattle.writing.proofs.Laying.{Wrote, on, whole, kept}
-use Rattle.extract.proofs.Batches.{front-wrote, rest-of, placed-rest}
+use Rattle.writing.proofs.Laying.{on, whole, kept}
+use Rattle.batches.proofs.Parts.{rest-of, front-wrote}
+use Rattle.extract.proofs.Batches.{placed-rest}
 use Rattle.extract.proofs.Rest.{blocksTo, header-blocks, whole-room}
 use Rattle.extract.proofs.Progress.{Progress, begun, goes-few, start-room, batch-room, tally-below, own-inside, batch-done, end-room, end-few, end-done}
 use Rattle.extract.proofs.whole.write.Statement.{statement}

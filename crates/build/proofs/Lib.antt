@@ -1,0 +1,11 @@
+pub mod Numbers
+pub mod Bodies
+pub mod Headed
+pub mod Sizes
+pub mod Answering
+pub mod Closing
+pub mod Runs
+pub mod Behind
+pub mod Progress
+pub mod Further
+pub mod Ending

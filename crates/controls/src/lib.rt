@@ -1,0 +1,4 @@
+// The controls of a batch and of a file: their rules, a chain in the order printed.
+pub mod batch_control;
+pub mod control;
+pub mod file_control;

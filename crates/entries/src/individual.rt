@@ -1,0 +1,91 @@
+// 6, individual.
+ghost use mathlib.Core.Path.{_≡_};
+ghost use Prim.Native.Nat.{_<_, _^_};
+ghost use lib.ListN.{length};
+ghost use Rattle.paper.specs.Records.{amountOf, accountGood, informationGood, flagGood, counterGood, transfer, individual};
+ghost use Rattle.record.specs.Verdicts.{told, under};
+use field::kind;
+use field::number;
+use field::text;
+use paper::answer::Fault;
+use paper::rules::Terms;
+use record::member;
+use record::verdict::Verdict;
+
+// In cents.
+pub fn amount(rec: &[u8]) -> u64
+    requires { ⌜ length (now rec) ≡ 94 ⌝ }
+    ensures { λ r. ⌜ (r ≡ amountOf (now (rec .entry))) × (r < 10 ^ 10) ⌝ }
+{
+    number::number(rec, 30, 39)
+}
+
+pub fn account_good(rec: &[u8]) -> bool
+    requires { ⌜ length (now rec) ≡ 94 ⌝ }
+    ensures { λ r. ⌜ r ≡ accountGood (now (rec .entry)) ⌝ }
+{
+    number::digits(rec, 13, 29)
+}
+
+pub fn information_good(rec: &[u8]) -> bool
+    requires { ⌜ length (now rec) ≡ 94 ⌝ }
+    ensures { λ r. ⌜ r ≡ informationGood (now (rec .entry)) ⌝ }
+{
+    text::reads(rec, 77, 78, b"00")
+        | (text::reads(rec, 77, 78, b"01") & kind::takes01(kind::code(rec)))
+}
+
+pub fn flag_good(rec: &[u8]) -> bool
+    requires { ⌜ length (now rec) ≡ 94 ⌝ }
+    ensures { λ r. ⌜ r ≡ flagGood (now (rec .entry)) ⌝ }
+{
+    text::reads(rec, 79, 79, b"1")
+        | (kind::is_order(kind::code(rec)) & text::reads(rec, 77, 78, b"00"))
+}
+
+pub fn counter_good(header: &[u8], previous: u64, rec: &[u8]) -> bool
+    requires { ⌜ length (now header) ≡ 94 ⌝ }
+    requires { ⌜ length (now rec) ≡ 94 ⌝ }
+    ensures { λ r. ⌜ r ≡ counterGood (now (header .entry)) previous (now (rec .entry)) ⌝ }
+{
+    text::same(rec, 80, 87, header, 80, 87) & (previous < number::number(rec, 88, 94))
+}
+
+// Positions 2 to 54: the code, whereto, how much and for what.
+pub fn transfer(terms: Terms, roster: &[bool; 500], rec: &[u8]) -> Verdict
+    requires { ⌜ length (now rec) ≡ 94 ⌝ }
+    ensures { λ r. ⌜ told r ≡ transfer (under terms (now (roster .entry))) (now (rec .entry)) ⌝ }
+{
+    let currency = terms.currency;
+    Verdict::Right
+        .need(kind::known(kind::code(rec)), Fault::Format)
+        .also(member::member_field(currency, roster, rec, 4, 11))
+        .need(text::reads(rec, 12, 12, b"0"), Fault::Reserved)
+        .need(account_good(rec), Fault::Account)
+        .need(
+            number::digits(rec, 30, 39) & (0 < amount(rec)),
+            Fault::Amount,
+        )
+        .need(!text::blank(rec, 40, 54), Fault::Reference)
+}
+
+pub fn judge(
+    terms: Terms,
+    roster: &[bool; 500],
+    header: &[u8],
+    previous: u64,
+    rec: &[u8],
+) -> Verdict
+    requires { ⌜ length (now header) ≡ 94 ⌝ }
+    requires { ⌜ length (now rec) ≡ 94 ⌝ }
+    ensures { λ r. ⌜ told r ≡ individual (under terms (now (roster .entry))) (now (header .entry)) previous (now (rec .entry)) ⌝ }
+{
+    let flagged = text::reads(rec, 79, 79, b"0") | text::reads(rec, 79, 79, b"1");
+    transfer(terms, roster, rec)
+        .need(!text::blank(rec, 55, 76), Fault::Format)
+        .need(information_good(rec), Fault::Information)
+        .need(flagged, Fault::Format)
+        .need(flag_good(rec), Fault::Additional)
+        .need(number::digits(rec, 80, 94), Fault::Format)
+        .need(counter_good(header, previous, rec), Fault::Counter)
+}

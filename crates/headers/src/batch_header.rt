@@ -1,0 +1,28 @@
+// 5, batch header.
+ghost use mathlib.Core.Path.{_≡_};
+ghost use lib.ListN.{length};
+ghost use Rattle.paper.specs.Records.{batchHeader};
+ghost use Rattle.record.specs.Verdicts.{told, under};
+use field::date;
+use field::number;
+use field::text;
+use paper::answer::Fault;
+use paper::rules::Terms;
+use record::member;
+use record::verdict::Verdict;
+
+pub fn judge(terms: Terms, roster: &[bool; 500], rec: &[u8]) -> Verdict
+    requires { ⌜ length (now rec) ≡ 94 ⌝ }
+    ensures { λ r. ⌜ told r ≡ batchHeader (under terms (now (roster .entry))) (now (rec .entry)) ⌝ }
+{
+    let currency = terms.currency;
+    Verdict::Right
+        .need(number::digits(rec, 2, 4), Fault::Format)
+        .need(!text::blank(rec, 5, 20), Fault::Format)
+        .need(number::digits(rec, 41, 50), Fault::Format)
+        .need(!text::blank(rec, 54, 63), Fault::Format)
+        .need(date::date(rec, 70, 75), Fault::Date)
+        .need(number::digits(rec, 79, 79), Fault::Format)
+        .also(member::member_field(currency, roster, rec, 80, 87))
+        .need(number::digits(rec, 88, 94), Fault::Format)
+}

@@ -1,0 +1,131 @@
+// One pass over a file: the places of the records that go to one entity, in order.
+ghost use mathlib.Core.Path.{_≡_};
+ghost use Prim.Native.Nat.{_≤_, _<_};
+ghost use lib.ListN.{length, set};
+ghost use Rattle.paper.specs.Extract.{isTo};
+ghost use Rattle.state.specs.States.{InFile};
+ghost use Rattle.picking.specs.Places.{Read, Placed, Fits, waiting, onward, passed, Stepped, Picks};
+use field::entity;
+use field::kind;
+use paper::record::Kind;
+use state::State;
+
+// How many records go, and how many of them are batch headers.
+pub struct Picked {
+    pub count: usize,
+    pub batches: usize,
+}
+
+impl Picked {
+    // Places, at most.
+    pub const MOST: usize = State::MOST;
+}
+
+// A batch header waits, put down after those that go, until a record of its batch goes.
+pub struct Picking {
+    pub count: usize,
+    // after what waits
+    pub next: usize,
+    pub batches: usize,
+    // whether the last individual record goes
+    pub mine: bool,
+}
+
+// At any branch.
+fn is_to(entity: u64, rec: &[u8]) -> bool
+    requires { ⌜ length (now rec) ≡ 94 ⌝ }
+    ensures { λ r. ⌜ r ≡ isTo entity (now (rec .entry)) ⌝ }
+{
+    entity::entity(rec, 4, 11) == entity
+}
+
+// A batch header waits behind those that go.
+fn waits(picking: Picking, places: &mut [u16], place: usize) -> Picking
+    requires { ⌜ (picking .count ≤ place) × (place < 10000) × (length (now places) ≡ 10000) ⌝ }
+    ensures { λ r. ⌜ (r ≡ waiting picking) × (now (places .exit) ≡ set (now (places .entry)) (picking .count) place) ⌝ }
+{
+    let count = picking.count;
+    places[count] = place as u16;
+    Picking {
+        count,
+        next: count + 1,
+        batches: picking.batches,
+        mine: false,
+    }
+}
+
+// A record goes, and with it what waits.
+fn goes(picking: Picking, places: &mut [u16], place: usize) -> Picking
+    requires { ⌜ Fits place picking × (place < 10000) × (length (now places) ≡ 10000) ⌝ }
+    ensures { λ r. ⌜ (r ≡ onward picking) × (now (places .exit) ≡ set (now (places .entry)) (picking .next) place) ⌝ }
+{
+    let next = picking.next;
+    places[next] = place as u16;
+    Picking {
+        count: next + 1,
+        next: next + 1,
+        batches: picking.batches + (next - picking.count),
+        mine: true,
+    }
+}
+
+// An individual record to somebody else; what waits, waits on.
+fn passes(picking: Picking) -> Picking
+    ensures { λ r. ⌜ r ≡ passed picking ⌝ }
+{
+    Picking {
+        count: picking.count,
+        next: picking.next,
+        batches: picking.batches,
+        mine: false,
+    }
+}
+
+// One record further.
+fn step(picking: Picking, entity: u64, file: &[u8], place: usize, places: &mut [u16]) -> Picking
+    requires { ⌜ InFile (now file) place ⌝ }
+    requires { ⌜ Fits place picking × Placed (now file) (now places) × (length (now places) ≡ 10000) ⌝ }
+    ensures { λ r. ⌜ Stepped entity (now (file .entry)) place (now (places .entry)) picking (now (places .exit)) r ⌝ }
+{
+    let rec = state::record_at(file, place);
+    match kind::kind(rec) {
+        Kind::BatchHeader => waits(picking, places, place),
+        Kind::Individual => {
+            if is_to(entity, rec) {
+                return goes(picking, places, place);
+            }
+            passes(picking)
+        }
+        Kind::Additional => {
+            if picking.mine {
+                return goes(picking, places, place);
+            }
+            picking
+        }
+        _ => picking,
+    }
+}
+
+// Of a file that the reading accepted.
+pub fn pick(entity: u64, file: &[u8], places: &mut [u16]) -> Picked
+    requires { ⌜ Read (now file) ⌝ }
+    requires { ⌜ Placed (now file) (now places) × (length (now places) ≡ 10000) ⌝ }
+    ensures { λ r. ⌜ Picks entity (now (file .entry)) r (now (places .exit)) ⌝ }
+{
+    let records = file.len() / State::RECORD;
+    let mut picking = Picking {
+        count: 0,
+        next: 0,
+        batches: 0,
+        mine: false,
+    };
+    let mut place: usize = 0;
+    while place < records {
+        picking = step(picking, entity, file, place, places);
+        place += 1;
+    }
+    Picked {
+        count: picking.count,
+        batches: picking.batches,
+    }
+}

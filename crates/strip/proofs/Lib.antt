@@ -1,0 +1,2 @@
+pub mod Becoming
+pub mod Passing

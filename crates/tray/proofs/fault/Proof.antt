@@ -1,0 +1,45 @@
+use Prim.Native.Nat.{_-_}
+use mathlib.Core.Path.{_≡_, refl, sym, ap, _∙_}
+use borrow.Author.Needs.{needs}
+use borrow.Author.Tests.{not-true, not-false}
+use native.Mathlib.Omega.{arith}
+use lib.ListN.{drop}
+use Rattle.paper.specs.Trays.{trayRecordGood, trayRecords, trayFault}
+use Rattle.tray.proofs.Passing.{stops, goes-on, ends}
+use Rattle.tray.proofs.fault.Statement.{statement}
+use Rattle.tray.proofs.fault.Tie as tie
+
+abbrev Inv-loop : tie.InvT-loop
+Inv-loop tray records place₀ place = trayFault 0 (trayRecords tray) ≡ trayFault place (drop place (trayRecords tray))
+
+abbrev μ-loop : tie.MeasureT-loop
+μ-loop tray records place₀ place = records - place
+
+returns : tie.Need-returns Inv-loop μ-loop
+returns c =
+    let r = c .before .before in
+    let l = r .before .before in
+    let bad = ap trayRecordGood (sym (r .record-at .ensures .0)) ∙ sym (c .before .good2 .ensures) ∙ not-true _ (c .if1 .taken) in
+    sym (l .loop .inv ∙ stops _ _ (r .before .loop-test .taken) bad)
+
+loop-again : tie.Need-loop-again Inv-loop μ-loop
+loop-again c =
+    let r = c .before .before in
+    let l = r .before .before in
+    let good = ap trayRecordGood (sym (r .record-at .ensures .0)) ∙ sym (c .before .good2 .ensures) ∙ not-false _ (c .if1 .left) in
+    l .loop .inv ∙ goes-on _ _ (r .before .loop-test .taken) good
+
+returns-2 : tie.Need-returns-2 Inv-loop μ-loop
+returns-2 c = sym (c .before .loop .inv ∙ ends _ _ (c .loop-test .left))
+
+pub fault-spec : {M : Type 1} → statement M
+fault-spec =
+    tie.close
+    (tie.spec
+    Inv-loop
+    μ-loop
+    (λ c. refl) (λ c κs. omega arith) (λ c κs. search needs)
+    returns
+    (λ c. omega arith) (λ c. omega arith)
+    loop-again
+    returns-2)

@@ -1,0 +1,30 @@
+//! What the parts of the measuring share.
+
+use second::day::Opening;
+use second::Rules;
+use std::hint::black_box;
+use std::time::Instant;
+
+/// Microseconds of work that must be accepted.
+pub fn timed(work: impl FnOnce() -> bool) -> f64 {
+    let start = Instant::now();
+    let accepted = black_box(work());
+    let elapsed = start.elapsed();
+    assert!(accepted, "bench files are good");
+    elapsed.as_secs_f64() * 1e6
+}
+
+pub fn median(mut times: Vec<f64>) -> f64 {
+    times.sort_by(f64::total_cmp);
+    times[times.len() / 2]
+}
+
+/// The opening that gives these rules.
+pub fn opening_of(rules: &Rules) -> Opening {
+    let listed = (1..500).filter(|&entity| rules.roster[entity as usize]);
+    Opening {
+        date: rules.date,
+        currency: rules.currency,
+        entities: listed.collect(),
+    }
+}
