@@ -5,16 +5,8 @@
 use crate::day::{Day, Opening, Outcome};
 use crate::session::CELLS;
 use crate::{Cell, Currency, Refusal, Rules, Written};
-
-/// Number 0 is acceptance; a reading then says the number of records in place of the place, a job that writes the number of bytes.
-#[repr(C)]
-struct Said {
-    number: u64,
-    place: u64,
-}
-
-/// Room for the longest listing.
-const LISTING: usize = 33_525;
+use desk::calls::{self, Spoken};
+use desk::LISTING;
 
 /// What buffers hold before a call: no figure, number or text that could be right.
 const JUNK_BYTE: u8 = 0xa5;
@@ -26,111 +18,14 @@ const GUARD: usize = 2;
 /// Bytes before and behind a buffer that nobody lent: more than two records.
 const GUARD_BYTES: usize = 200;
 
-// A slice is two arguments, its pointer and its length: as one argument of sixteen bytes it would go to the stack whole where one register is left.
-unsafe extern "C" {
-    fn shaydhoqel_read(
-        date: u64,
-        dollars: bool,
-        roster: &[bool; 500],
-        file: *const u8,
-        file_length: usize,
-    ) -> Said;
-
-    fn shaydhoqel_day(
-        date: u64,
-        dollars: bool,
-        entities: *const u64,
-        entities_length: usize,
-        ends: *const u64,
-        ends_length: usize,
-        files: *const u8,
-        files_length: usize,
-        answers: *mut u64,
-        answers_length: usize,
-        positions: &mut [i64; 500],
-        sent: &mut [u64; 500],
-        received: &mut [u64; 500],
-    ) -> Said;
-
-    fn shaydhoqel_day_listing(
-        date: u64,
-        dollars: bool,
-        entities: *const u64,
-        entities_length: usize,
-        ends: *const u64,
-        ends_length: usize,
-        files: *const u8,
-        files_length: usize,
-        out: &mut [u8; LISTING],
-    ) -> u64;
-
-    fn shaydhoqel_listing(input: *const u8, input_length: usize, out: &mut [u8; LISTING]) -> u64;
-
-    fn shaydhoqel_extract(
-        date: u64,
-        dollars: bool,
-        entities: *const u64,
-        entities_length: usize,
-        entity: u64,
-        file: *const u8,
-        file_length: usize,
-        out: *mut u8,
-        out_length: usize,
-    ) -> Said;
-
-    fn shaydhoqel_build(
-        date: u64,
-        dollars: bool,
-        entities: *const u64,
-        entities_length: usize,
-        header: *const u8,
-        header_length: usize,
-        tray: *const u8,
-        tray_length: usize,
-        out: *mut u8,
-        out_length: usize,
-    ) -> Said;
-
-    fn shaydhoqel_strip(
-        date: u64,
-        dollars: bool,
-        entities: *const u64,
-        entities_length: usize,
-        file: *const u8,
-        file_length: usize,
-        out: *mut u8,
-        out_length: usize,
-    ) -> Said;
-}
-
-/// A call that begins with an opening: plain arguments, then slices as pointer and length, then what is written.
-macro_rules! opened {
-    ($job:ident, $opening:expr, [$($plain:expr),*], [$($slice:expr),*], $($out:expr),+) => {
-        $job(
-            $opening.date,
-            $opening.currency == Currency::Dollars,
-            $opening.entities.as_ptr(),
-            $opening.entities.len(),
-            $($plain,)*
-            $($slice.as_ptr(), $slice.len(),)*
-            $($out),+
-        )
-    };
-}
-
 pub fn read(rules: &Rules, file: &[u8]) -> Result<usize, Refusal> {
-    let dollars = rules.currency == Currency::Dollars;
-    // SAFETY: the library only reads what it is lent, for the time of the call.
-    let said = unsafe {
-        shaydhoqel_read(
-            rules.date,
-            dollars,
-            &rules.roster,
-            file.as_ptr(),
-            file.len(),
-        )
-    };
-    said.counted()
+    let said = calls::read(
+        rules.date,
+        their_currency(rules.currency),
+        &rules.roster,
+        file,
+    );
+    counted(said)
 }
 
 pub fn day(day: &Day) -> Outcome {
@@ -138,20 +33,15 @@ pub fn day(day: &Day) -> Outcome {
     let mut answers = vec![JUNK; lent + GUARD];
     let mut positions = [JUNK as i64; CELLS];
     let (mut sent, mut received) = ([JUNK; CELLS], [JUNK; CELLS]);
-    // SAFETY: the library reads and writes what it is lent, for the time of the call.
-    let said = unsafe {
-        opened!(
-            shaydhoqel_day,
-            day.opening,
-            [],
-            [day.ends(), day.bytes()],
-            answers.as_mut_ptr(),
-            lent,
-            &mut positions,
-            &mut sent,
-            &mut received
-        )
-    };
+    let said = calls::day(
+        &theirs(&day.opening),
+        day.ends(),
+        day.bytes(),
+        &mut answers[..lent],
+        &mut positions,
+        &mut sent,
+        &mut received,
+    );
     assert_eq!(answers[lent..], [JUNK; GUARD], "written behind the answers");
     Outcome {
         opening: answer(said.number, said.place),
@@ -170,23 +60,13 @@ pub fn day(day: &Day) -> Outcome {
 /// The listing of the session at the end of a day.
 pub fn day_listing(day: &Day) -> Result<Vec<u8>, String> {
     let mut out = [JUNK_BYTE; LISTING];
-    // SAFETY: the library reads what it is lent and writes the buffer, for the time of the call.
-    let written = unsafe {
-        opened!(
-            shaydhoqel_day_listing,
-            day.opening,
-            [],
-            [day.ends(), day.bytes()],
-            &mut out
-        )
-    };
+    let written = calls::day_listing(&theirs(&day.opening), day.ends(), day.bytes(), &mut out);
     handed_over(&out, written)
 }
 
 pub fn listing(input: &[u8]) -> Result<Vec<u8>, String> {
     let mut out = [JUNK_BYTE; LISTING];
-    // SAFETY: the library reads the input and writes the buffer, for the time of the call.
-    let written = unsafe { shaydhoqel_listing(input.as_ptr(), input.len(), &mut out) };
+    let written = calls::listing(input, &mut out);
     handed_over(&out, written)
 }
 
@@ -197,10 +77,7 @@ pub fn extract(
     file: &[u8],
     out: &mut [u8],
 ) -> Result<usize, Refusal> {
-    let (lent, length) = (out.as_mut_ptr(), out.len());
-    // SAFETY: the library reads what it is lent and writes the buffer, for the time of the call.
-    let said = unsafe { opened!(shaydhoqel_extract, opening, [entity], [file], lent, length) };
-    said.counted()
+    counted(calls::extract(&theirs(opening), entity, file, out))
 }
 
 /// The call alone, for measuring: opens a session and builds.
@@ -210,18 +87,12 @@ pub fn build(
     tray: &[u8],
     out: &mut [u8],
 ) -> Result<usize, Refusal> {
-    let (lent, length) = (out.as_mut_ptr(), out.len());
-    // SAFETY: as for extracting.
-    let said = unsafe { opened!(shaydhoqel_build, opening, [], [header, tray], lent, length) };
-    said.counted()
+    counted(calls::build(&theirs(opening), header, tray, out))
 }
 
 /// The call alone, for measuring: opens a session and strips.
 pub fn strip(opening: &Opening, file: &[u8], out: &mut [u8]) -> Result<usize, Refusal> {
-    let (lent, length) = (out.as_mut_ptr(), out.len());
-    // SAFETY: as for extracting.
-    let said = unsafe { opened!(shaydhoqel_strip, opening, [], [file], lent, length) };
-    said.counted()
+    counted(calls::strip(&theirs(opening), file, out))
 }
 
 /// The answer and the buffer afterwards, or what was written outside of it.
@@ -269,13 +140,27 @@ fn guarded(
     Ok(Written { answer, buffer })
 }
 
-impl Said {
-    /// Records read or bytes written, or the refusal.
-    fn counted(&self) -> Result<usize, Refusal> {
-        match self.number {
-            0 => Ok(place(self.place)),
-            number => Err(refusal(number, self.place)),
-        }
+/// The same opening in the words of the library's bindings.
+fn theirs(opening: &Opening) -> desk::Opening<'_> {
+    desk::Opening {
+        date: opening.date,
+        currency: their_currency(opening.currency),
+        entities: &opening.entities,
+    }
+}
+
+fn their_currency(currency: Currency) -> desk::Currency {
+    match currency {
+        Currency::Pesos => desk::Currency::Pesos,
+        Currency::Dollars => desk::Currency::Dollars,
+    }
+}
+
+/// Number 0 is acceptance: the place is then the number of records read or bytes written.
+fn counted(said: Spoken) -> Result<usize, Refusal> {
+    match said.number {
+        0 => Ok(place(said.place)),
+        number => Err(refusal(number, said.place)),
     }
 }
 

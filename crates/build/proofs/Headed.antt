@@ -1,5 +1,4 @@
 -- A batch of a tray: its header is the first record, and its records stand behind it.
--- Assumes nothing.
 use Prim.Native.Nat.{ℕ, suc, _+_, _-_, _/_, _≤_}
 use mathlib.Core.List.{List, _∷_}
 use mathlib.Core.Path.{_≡_, sym, ap, _∙_}

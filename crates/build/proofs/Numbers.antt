@@ -1,5 +1,4 @@
 -- Records under their numbers: what stands at a place, and how far the numbering has come there.
--- Assumes nothing.
 use Prim.Native.Nat.{ℕ, zero, suc, _+_, _≤_}
 use mathlib.Core.Bool.{not}
 use mathlib.Core.List.{List, [], _∷_, _++_}

@@ -1,5 +1,4 @@
 -- The records of a tray are of types 5, 6 and 7, under their numbers too; where a batch header is next.
--- Assumes nothing.
 use Prim.Native.Nat.{ℕ, zero, suc, _+_, _/_, _≤_, _<_}
 use mathlib.Core.List.{List, [], _∷_}
 use mathlib.Core.Logic.{_⊎_, inl, inr}

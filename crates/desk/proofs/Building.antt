@@ -17,9 +17,9 @@ use Rattle.paper.specs.Reading.{lengthGood, reading}
 use Rattle.paper.specs.Writing.{blanks}
 use Rattle.paper.specs.Trays.{build}
 use Rattle.paper.specs.Buffers.{Outcome, told, over, written, roomFor, trayAnswer, builtAs, builtIf, buildable, building}
-use Rattle.paper.proofs.Refusals.{both-accept, required, require-met}
-use Rattle.paper.proofs.Accepted.{accepted-exactly}
-use Rattle.paper.proofs.Lent.{over-rest, building-stays, building-spaces}
+use Rattle.paper.proofs.Refusals.{both-accept, required, require-met, first-refusal}
+use Rattle.paper.proofs.Exactly.{accepted-exactly}
+use Rattle.paper.proofs.Lent.{over-rest, building-length, building-stays, building-spaces}
 use Rattle.paper.proofs.Numbers.{told-once}
 use Rattle.tray.specs.Trays.{trayRecordAt}
 use Rattle.build.proofs.Sizes.{built-fits}
@@ -27,9 +27,9 @@ use Rattle.desk.specs.declared.Session.{Session}
 use Rattle.desk.specs.Standing.{rulesOf}
 use Rattle.desk.specs.Lent.{handed}
 use Rattle.desk.specs.Trays.{Builds, answerToBuild, Buildable, TrayBad, Spaced}
-use Rattle.desk.proofs.Lent.{numbers, held}
-use Rattle.desk.proofs.ReadingNumbers.{recordNumbers, reading-number}
-use Rattle.desk.proofs.TrayFaults.{first-refusal, none-bad, Refuses, bad-tray, too-long, no-room, refuses}
+use Rattle.desk.proofs.Lent.{same-length, numbers, held, inside}
+use Rattle.paper.proofs.ReadingNumbers.{recordNumbers, reading-number}
+use Rattle.desk.proofs.TrayFaults.{none-bad, Refuses, bad-tray, too-long, no-room, refuses}
 
 module _ (s : Session) (header tray before : List ℕ) where
   -- an answer of acceptance asks for all of it, and for no more
@@ -100,6 +100,15 @@ module _ (s : Session) (header tray before : List ℕ) where
     pub build-held : {n : ℕ} → r ≡ Accepted n
         → (handed r after ≡ build header tray) × (n ≡ length (build header tray)) × (drop n after ≡ drop n before)
     build-held p = held accepted (build header tray) before r after (says (answered p)) p
+
+    -- the buffer comes back as long as it was
+    pub build-keeps-length : length after ≡ length before
+    build-keeps-length = same-length (building (rulesOf s) header tray before) r after h (building-length (rulesOf s) header tray before)
+
+    -- the number given is within the buffer handed back
+    -- (not so with a number that counts the tray's marks too, or with a buffer cut short)
+    pub build-inside : {n : ℕ} → r ≡ Accepted n → n ≤ length after
+    build-inside p = inside accepted (build header tray) before r after (says (answered p)) p
 
     -- demand 1: 207, 201 and 206 leave the lent buffer as it was
     -- (not so with a build that writes as it goes and then finds a bad mark, or one that clears the buffer when there is no room)

@@ -3,7 +3,7 @@ use Prim.Native.Nat.{ℕ, _+_, _*_, _≤_}
 use native.Mathlib.Omega.{arith}
 use mathlib.Core.Bool.{false, _&&_}
 use mathlib.Core.List.{List}
-use mathlib.Core.Path.{_≡_, refl, sym, _∙_}
+use mathlib.Core.Path.{_≡_, refl, sym, ap, _∙_}
 use lib.Dec.{T, leb, leb→le, le→leb}
 use lib.ListN.{length, drop, getD}
 use Rattle.paper.specs.declared.answer.Fault.{Fault}
@@ -18,13 +18,14 @@ use Rattle.paper.specs.Demands.{SameTo, itemsOf}
 use Rattle.paper.proofs.Tests.{and-l, and-r, of-T}
 use Rattle.paper.proofs.Refusals.{both-accept, required}
 use Rattle.paper.proofs.Numbers.{told-once}
+use Rattle.paper.proofs.Lent.{extracting-length}
 use Rattle.paper.proofs.Apart as paper-apart
 use Rattle.paper.proofs.Size.{extract-length, extract-fits}
 use Rattle.desk.specs.declared.Session.{Session}
 use Rattle.desk.specs.Standing.{rulesOf}
 use Rattle.desk.specs.Lent.{handed}
 use Rattle.desk.specs.Extracts.{Extracts, answerFor, Extractable}
-use Rattle.desk.proofs.Lent.{answers, asked, numbers, held, stays}
+use Rattle.desk.proofs.Lent.{same-length, answers, asked, numbers, held, inside, stays}
 
 module _ (s : Session) (e : ℕ) (file before : List ℕ) where
   -- an answer of acceptance asks for all of it, and for no more
@@ -76,6 +77,15 @@ module _ (s : Session) (e : ℕ) (file before : List ℕ) where
         → (handed r after ≡ extract (s .currency) e file) × (n ≡ length (extract (s .currency) e file)) × (drop n after ≡ drop n before)
     extract-held = held (answerFor s e file before) (extract (s .currency) e file) before r after says
 
+    -- the buffer comes back as long as it was
+    pub extract-keeps-length : length after ≡ length before
+    extract-keeps-length = same-length (extracting (rulesOf s) e file before) r after h (extracting-length (rulesOf s) e file before)
+
+    -- the number given is within the buffer handed back
+    -- (not so with a number that counts the whole file's bytes, or with a buffer cut short)
+    pub extract-inside : {n : ℕ} → r ≡ Accepted n → n ≤ length after
+    extract-inside = inside (answerFor s e file before) (extract (s .currency) e file) before r after says
+
     -- file header and control, two more for each batch that holds records to E, and the records to E with their additionals: 94 bytes each
     pub extract-size : {n : ℕ} → r ≡ Accepted n
         → n ≡ (2 + 2 * length (batchesTo e (batchesOf file)) + length (itemRecords (itemsTo e (itemsOf file)))) * 94
@@ -105,6 +115,21 @@ module _ (s : Session) (e : ℕ) (f g : List ℕ) (same : SameTo e f g) where
       extract-held s e f before1 r after1 h a .0
       ∙ paper-apart.extracts-equal (s .currency) e f g same
       ∙ sym (extract-held s e g before2 q after2 k b .0)
+
+  -- with E on the roster and buffers as long as the files they are written, and the number is the same too
+  pub extracts-written : reading (rulesOf s) f ≡ accepted → reading (rulesOf s) g ≡ accepted → T (within 1 499 e) → T (getD (s .roster) e false)
+      → (before1 before2 : List ℕ) → length f ≤ length before1 → length g ≤ length before2
+      → (r q : Output) (after1 after2 : List ℕ) → Extracts s e f before1 r after1 → Extracts s e g before2 q after2
+      → (r ≡ Accepted (length (handed r after1))) × (q ≡ r) × (handed q after2 ≡ handed r after1)
+  extracts-written reads reads2 entity listed before1 before2 room room2 r q after1 after2 h k =
+      let a = extract-has-room s e f before1 r after1 h entity listed reads room in
+      let b = extract-has-room s e g before2 q after2 k entity listed reads2 room2 in
+      let same-bytes : handed q after2 ≡ handed r after1 = sym (extracts-apart before1 before2 r q after1 after2 h k a b) in
+      let number : r ≡ Accepted (length (handed r after1)) = a ∙ ap (λ (l : List ℕ). Accepted (length l)) (sym (extract-held s e f before1 r after1 h a .0)) in (
+        number,
+        b ∙ ap (λ (l : List ℕ). Accepted (length l)) (sym (extract-held s e g before2 q after2 k b .0) ∙ same-bytes) ∙ sym number,
+        same-bytes,
+      )
 
   -- lent the same buffer, accepted or refused: the same answer, and the same bytes to its end
   pub extracts-alike : reading (rulesOf s) f ≡ accepted → reading (rulesOf s) g ≡ accepted → (before : List ℕ) (r q : Output) (after1 after2 : List ℕ)

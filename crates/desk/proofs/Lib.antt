@@ -3,6 +3,9 @@ pub mod Rosters
 pub mod Keys
 pub mod Replies
 pub mod Once
+pub mod Cells
+pub mod Newness
+pub mod Standings
 pub mod Demands
 pub mod Lent
 pub mod Extracts
@@ -12,6 +15,6 @@ pub mod Building
 pub mod RoundTrips
 pub mod Asking
 pub mod Traying
-pub mod ReadingNumbers
 pub mod TrayFaults
 pub mod Sizes
+pub mod LongTrays

@@ -1,5 +1,5 @@
 -- What holds of the desk's own stripping, whatever was lent: each hypothesis is what a call of strip says.
-use Prim.Native.Nat.{ℕ}
+use Prim.Native.Nat.{ℕ, _≤_}
 use mathlib.Core.List.{List}
 use mathlib.Core.Path.{_≡_, refl, sym, _∙_}
 use lib.Dec.{leb, leb→le, le→leb}
@@ -12,12 +12,13 @@ use Rattle.paper.specs.Reading.{reading}
 use Rattle.paper.specs.Trays.{strip}
 use Rattle.paper.specs.Buffers.{told, written, roomFor, stripping}
 use Rattle.paper.proofs.Refusals.{both-accept, required, require-met}
+use Rattle.paper.proofs.Lent.{stripping-length}
 use Rattle.paper.proofs.Numbers.{told-once}
 use Rattle.desk.specs.declared.Session.{Session}
 use Rattle.desk.specs.Standing.{rulesOf}
 use Rattle.desk.specs.Lent.{handed}
 use Rattle.desk.specs.Trays.{Strips, answerToStrip, Strippable}
-use Rattle.desk.proofs.Lent.{answers, asked, numbers, held, stays}
+use Rattle.desk.proofs.Lent.{same-length, answers, asked, numbers, held, inside, stays}
 
 module _ (s : Session) (file before : List ℕ) where
   -- an answer of acceptance asks for all of it, and for no more
@@ -60,6 +61,15 @@ module _ (s : Session) (file before : List ℕ) where
     -- (not so with a tray that keeps the file's numbers in 88-94, or a call that blanks the rest of the buffer)
     pub strip-held : {n : ℕ} → r ≡ Accepted n → (handed r after ≡ strip file) × (n ≡ length (strip file)) × (drop n after ≡ drop n before)
     strip-held = held (answerToStrip s file before) (strip file) before r after says
+
+    -- the buffer comes back as long as it was
+    pub strip-keeps-length : length after ≡ length before
+    strip-keeps-length = same-length (stripping (rulesOf s) file before) r after h (stripping-length (rulesOf s) file before)
+
+    -- the number given is within the buffer handed back
+    -- (not so with a number that counts the file's bytes where the tray is shorter, or with a buffer cut short)
+    pub strip-inside : {n : ℕ} → r ≡ Accepted n → n ≤ length after
+    strip-inside = inside (answerToStrip s file before) (strip file) before r after says
 
     -- one outcome only: two calls that are lent the same answer alike and leave the same bytes
     -- (not so with a strip that answers by what the buffer held, or one that leaves what it likes behind the tray)

@@ -13,25 +13,12 @@ use Rattle.paper.specs.Answers.{Said, accepted, refused, andThen, require}
 use Rattle.paper.specs.Trays.{trayRecords, trayRecordGood, trayFault, build}
 use Rattle.paper.specs.Buffers.{trayAnswer, buildable}
 use Rattle.paper.proofs.Tests.{and-l, and-r, T-of, of-T}
-use Rattle.paper.proofs.Refusals.{refused-not, required}
+use Rattle.paper.proofs.Refusals.{refused-not, required, first-refusal, require-refused}
 use Rattle.tray.specs.Trays.{trayRecordAt}
 use Rattle.tray.proofs.Places.{sound-of}
 use Rattle.tray.proofs.Passing.{stops, goes-on, ends}
 use Rattle.build.proofs.Sizes.{builtRecords, build-length, buildable-as}
 use Rattle.desk.specs.Trays.{GoodAt, Misshapen, FirstBad, TrayBad}
-
--- ---- answers in turn
-
--- a refusal of two answers is that of the first, or of the second where the first accepts
-pub first-refusal : (a b : Said) {n place : ℕ} → andThen a b ≡ refused n place → (a ≡ refused n place) ⊎ ((a ≡ accepted) × (b ≡ refused n place))
-unfolding andThen
-first-refusal (refused m q) b e = inl e
-first-refusal accepted b e = inr (refl, e)
-
-require-refused : (b : Bool) (m q : ℕ) {n place : ℕ} → require b m q ≡ refused n place → (b ≡ false) × (n ≡ m) × (place ≡ q)
-unfolding require
-require-refused true m q h = absurd (refused-not (sym h))
-require-refused false m q h = (refl, cc, cc)
 
 -- ---- record by record
 
@@ -91,7 +78,7 @@ module _ (header tray : List ℕ) where
   no-shape (inl m) = rw (ne-eqb (length header) 94 m) refl
   no-shape (inr m) = rw (ne-eqb (length tray % 96) 0 m) (and-false (eqb (length header) 94))
 
-  tray-named : {n place : ℕ} → trayAnswer header tray ≡ refused n place → (n ≡ 207) × TrayBad header tray place
+  pub tray-named : {n place : ℕ} → trayAnswer header tray ≡ refused n place → (n ≡ 207) × TrayBad header tray place
   unfolding trayAnswer
   tray-named {n} {place} h = go (first-refusal (require shape 207 0) (trayFault 0 (trayRecords tray)) h)
     where

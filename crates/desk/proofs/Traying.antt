@@ -1,5 +1,4 @@
 -- Building and stripping, refusal by refusal.
--- Assumes nothing.
 use Prim.Native.Nat.{ℕ, _-_, _≤_}
 use native.Mathlib.Omega.{arith}
 use mathlib.Core.List.{List}

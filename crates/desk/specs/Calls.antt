@@ -1,19 +1,41 @@
--- Sessions come from opening and presenting only.
+-- What a call of the desk says, by the contract of the function called; and sessions, which come from opening and presenting only.
 use Prim.Native.Nat.{ℕ}
 use mathlib.Core.List.{List, []}
 use mathlib.Core.Path.{_≡_}
+use Rattle.paper.specs.declared.answer.Answer.{Answer}
+use Rattle.paper.specs.declared.ledger.Cell.{Cell}
 use Rattle.paper.specs.declared.rules.Currency.{Currency}
 use Rattle.paper.specs.Answers.{said}
-use Rattle.paper.specs.Sessions.{opening, presenting}
+use Rattle.paper.specs.Reading.{reading}
+use Rattle.paper.specs.Sessions.{opening, presenting, cellOf}
 use Rattle.paper.specs.Demands.{withAccepted}
 use Rattle.desk.specs.declared.Session.{Session}
 use Rattle.desk.specs.declared.Reply.{Reply}
-use Rattle.desk.specs.Standing.{standing, heard}
+use Rattle.desk.specs.Standing.{rulesOf, standing, heard}
+
+-- of a date, a currency and a list of entity numbers: the session handed back with its answer
+abbrev pub Opens : ℕ → Currency → List ℕ → Reply → Type 0
+Opens date currency entities r = heard r ≡ opening date currency entities
+
+-- of a session and a file
+abbrev pub Reads : Session → List ℕ → Answer → Type 0
+Reads s file a = said a ≡ reading (rulesOf s) file
+
+abbrev pub Presents : Session → List ℕ → Reply → Type 0
+Presents s file r = heard r ≡ presenting (standing s) file
+
+-- of a session and an entity: its cell
+abbrev pub Holds : Session → ℕ → Cell → Type 0
+Holds s e c = c ≡ cellOf (standing s) e
+
+-- of a session: all its cells
+abbrev pub HoldsAll : Session → List Cell → Type 0
+HoldsAll s cells = cells ≡ s .cells
 
 -- a session that calls of the desk handed back, and the files accepted when presented, in order
 pub data Came : Session → List (List ℕ) → Type 0 where
-  opened : (date : ℕ) (currency : Currency) (entities : List ℕ) (r : Reply) → heard r ≡ opening date currency entities → Came (r .session) []
-  presented : {s : Session} {files : List (List ℕ)} → Came s files → (file : List ℕ) (r : Reply) → heard r ≡ presenting (standing s) file
+  opened : (date : ℕ) (currency : Currency) (entities : List ℕ) (r : Reply) → Opens date currency entities r → Came (r .session) []
+  presented : {s : Session} {files : List (List ℕ)} → Came s files → (file : List ℕ) (r : Reply) → Presents s file r
       → Came (r .session) (withAccepted (said (r .answer)) files file)
 
 -- the one premise that a promise names

@@ -3,13 +3,13 @@ ghost use mathlib.Core.Path.{_≡_};
 ghost use mathlib.Core.Bool.{true};
 ghost use mathlib.Core.List.{[]};
 ghost use Rattle.paper.specs.declared.rules.Currency.the-variants.{Pesos};
-ghost use Rattle.paper.specs.Answers.{said, refused, numberOf};
+ghost use Rattle.paper.specs.Answers.{refused, numberOf};
 ghost use Rattle.paper.specs.Fields.{every, within};
-ghost use Rattle.paper.specs.Reading.{reading};
-ghost use Rattle.paper.specs.Buffers.{told, extracting, building, stripping};
-ghost use Rattle.paper.specs.Sessions.{listed, newSession, opening, presenting, cellOf};
-ghost use Rattle.desk.specs.Standing.{termsOf, rulesOf, standing, heard};
-ghost use Rattle.desk.specs.Calls.{Reachable};
+ghost use Rattle.paper.specs.Sessions.{listed, newSession};
+ghost use Rattle.desk.specs.Standing.{termsOf, standing, heard};
+ghost use Rattle.desk.specs.Calls.{Opens, Reads, Presents, Holds, HoldsAll, Reachable};
+ghost use Rattle.desk.specs.Extracts.{Extracts};
+ghost use Rattle.desk.specs.Trays.{Builds, Strips};
 use field::date;
 use paper::answer::Answer;
 use paper::answer::Fault;
@@ -97,7 +97,7 @@ impl Session {
 
     // A bad date is 75; then a number not 1 to 499 is 208.
     pub fn open(date: u64, currency: Currency, entities: &[u64]) -> Reply
-        ensures { λ r. ⌜ (heard r ≡ opening date currency (now (entities .entry))) × Reachable (r .session) ⌝ }
+        ensures { λ r. ⌜ Opens date currency (now (entities .entry)) r × Reachable (r .session) ⌝ }
     {
         if !date::is_date(date) {
             return not_opened(Fault::Date);
@@ -122,7 +122,7 @@ impl Session {
     }
 
     pub fn read(self, file: &[u8]) -> Answer
-        ensures { λ r. ⌜ said r ≡ reading (rulesOf self) (now (file .entry)) ⌝ }
+        ensures { λ r. ⌜ Reads self (now (file .entry)) r ⌝ }
     {
         let terms = self.terms();
         answers::of_reading(reading::read(terms, &self.roster, file))
@@ -131,7 +131,7 @@ impl Session {
     // The reading's refusals, then 209. A refusal leaves the session as it is and uses up no identifier.
     pub fn present(self, file: &[u8]) -> Reply
         requires { ⌜ Reachable self ⌝ }
-        ensures { λ r. ⌜ (heard r ≡ presenting (standing self) (now (file .entry))) × Reachable (r .session) ⌝ }
+        ensures { λ r. ⌜ Presents self (now (file .entry)) r × Reachable (r .session) ⌝ }
     {
         let mut session = self;
         let terms = session.terms();
@@ -152,7 +152,7 @@ impl Session {
 
     // 208, the reading's refusals, then 206; each leaves the buffer as it was. The rest of the buffer stays.
     pub fn extract(self, entity: u64, file: &[u8], out: &mut [u8]) -> Output
-        ensures { λ r. ⌜ told r (now (out .exit)) ≡ extracting (rulesOf self) entity (now (file .entry)) (now (out .entry)) ⌝ }
+        ensures { λ r. ⌜ Extracts self entity (now (file .entry)) (now (out .entry)) r (now (out .exit)) ⌝ }
     {
         if !roster::is_listed(&self.roster, entity) {
             return Output::Refused(Fault::Entity, 0);
@@ -168,7 +168,7 @@ impl Session {
 
     // 207, 201, 206, each leaving the buffer as it was; then the reading's answer on the file, and spaces in its place where it refuses.
     pub fn build(self, header: &[u8], tray: &[u8], out: &mut [u8]) -> Output
-        ensures { λ r. ⌜ told r (now (out .exit)) ≡ building (rulesOf self) (now (header .entry)) (now (tray .entry)) (now (out .entry)) ⌝ }
+        ensures { λ r. ⌜ Builds self (now (header .entry)) (now (tray .entry)) (now (out .entry)) r (now (out .exit)) ⌝ }
     {
         let built = build::build(header, tray, out);
         let Output::Accepted(size) = built else {
@@ -185,7 +185,7 @@ impl Session {
 
     // The reading's refusals, then 206; each leaves the buffer as it was.
     pub fn strip(self, file: &[u8], out: &mut [u8]) -> Output
-        ensures { λ r. ⌜ told r (now (out .exit)) ≡ stripping (rulesOf self) (now (file .entry)) (now (out .entry)) ⌝ }
+        ensures { λ r. ⌜ Strips self (now (file .entry)) (now (out .entry)) r (now (out .exit)) ⌝ }
     {
         let terms = self.terms();
         let reading = reading::read(terms, &self.roster, file);
@@ -197,7 +197,7 @@ impl Session {
 
     // What the session holds for an entity; nothing for a number that is none.
     pub fn cell(self, entity: u64) -> Cell
-        ensures { λ r. ⌜ r ≡ cellOf (standing self) entity ⌝ }
+        ensures { λ r. ⌜ Holds self entity r ⌝ }
     {
         if roster::is_entity(entity) {
             let e = entity as usize;
@@ -208,7 +208,7 @@ impl Session {
 
     // The same of every entity number, to go through them.
     pub fn cells(self) -> [Cell; Session::ROSTER]
-        ensures { λ r. ⌜ r ≡ standing self .cells ⌝ }
+        ensures { λ r. ⌜ HoldsAll self r ⌝ }
     {
         self.cells
     }

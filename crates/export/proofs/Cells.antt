@@ -1,5 +1,4 @@
 -- Cells handed over, figure by figure.
--- Assumes nothing.
 use Prim.Native.Nat.{ℕ, _+_, _≤_, _<_}
 use mathlib.Core.List.{List, map, map-append}
 use mathlib.Core.Path.{_≡_, sym, ap, _∙_}

@@ -1,5 +1,4 @@
 -- The part of a record that is lent is the field at the paper's positions.
--- Assumes nothing.
 use Prim.Native.Nat.{ℕ, _+_, _-_, _<_}
 use mathlib.Core.List.{List, [], _∷_}
 use mathlib.Core.Path.{_≡_}

@@ -1,5 +1,4 @@
 -- What the keys and bounds of a `match` arm say of the number that was matched.
--- Assumes nothing.
 use Prim.Native.Nat.{ℕ, zero, suc, _+_, _≤_, _<_}
 use mathlib.Core.Bool.{true, false}
 use mathlib.Core.List.{List, [], _∷_}

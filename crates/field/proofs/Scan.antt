@@ -1,5 +1,4 @@
 -- Loops that go up a list with no way out: what has been tested, and what is left to test. A loop that leaves early has tested well so far.
--- Assumes nothing.
 use Prim.Native.Nat.{ℕ, _+_, _≤_, _<_, zero, suc}
 use mathlib.Core.Bool.{Bool, true, false, _&&_, and-assoc, and-true}
 use mathlib.Core.List.{List, [], _∷_}

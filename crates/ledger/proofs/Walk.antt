@@ -18,7 +18,8 @@ use Rattle.paper.specs.Records.{amountOf}
 use Rattle.paper.specs.Reading.{parts, recordsOf}
 use Rattle.paper.specs.Postings.{Posting, posting, postedBy, ownPostings}
 use Rattle.paper.specs.Sessions.{zeroCell, cellsAfter}
-use Rattle.paper.proofs.Places.{length-parts, parts-from}
+use Rattle.paper.proofs.Lists.{length-parts}
+use Rattle.paper.proofs.Places.{parts-from}
 use Rattle.record.proofs.Arms.{in-kinds}
 use Rattle.state.specs.States.{recordAt}
 use Rattle.ledger.specs.Sides.{side}

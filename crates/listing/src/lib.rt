@@ -10,6 +10,7 @@ use lines::Listing;
 use paper::answer::Answer;
 use paper::answer::Fault;
 
+pub mod answers;
 pub mod input;
 pub mod lines;
 
@@ -22,7 +23,7 @@ pub fn print(reply: Reply, out: &mut [u8; Listing::ROOM]) -> usize
     let session = reply.session;
     match answer {
         Answer::Accepted => lines::write(session.cells(), out),
-        Answer::Refused(fault, place) => lines::refusal(fault.number(), place as u64, out),
+        Answer::Refused(fault, place) => lines::refusal(out, 0, fault.number(), place as u64),
     }
 }
 
@@ -31,7 +32,7 @@ pub fn positions(input: &[u8], out: &mut [u8; Listing::ROOM]) -> usize
     ensures { λ r. ⌜ Written (positionsOf (now (input .entry))) r (now (out .entry)) (now (out .exit)) ⌝ }
 {
     if Listing::INPUT < input.len() {
-        return lines::refusal(Fault::Length.number(), 0, out);
+        return lines::refusal(out, 0, Fault::Length.number(), 0);
     }
     let everyone = input::everyone();
     let opened = Session::open(input::date(input), input::currency(input), &everyone);

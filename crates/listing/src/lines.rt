@@ -99,10 +99,11 @@ pub fn write(cells: [Cell; 500], out: &mut [u8; Listing::ROOM]) -> usize
 }
 
 // The line that stands in place of a listing.
-pub fn refusal(number: u64, place: u64, out: &mut [u8; Listing::ROOM]) -> usize
-    ensures { λ r. ⌜ Written (refusalLine number place) r (now (out .entry)) (now (out .exit)) ⌝ }
+pub fn refusal(out: &mut [u8; Listing::ROOM], at: usize, number: u64, place: u64) -> usize
+    requires { ⌜ HasRoom at 53 ⌝ }
+    ensures { λ r. ⌜ (r ≡ at + length (refusalLine number place)) × (now (out .exit) ≡ laid at (refusalLine number place) (now (out .entry))) ⌝ }
 {
-    let word = writing::text(out, 0, b"REFUSED ");
+    let word = writing::text(out, at, b"REFUSED ");
     let past_number = writing::number(out, word, number);
     let between = writing::text(out, past_number, b" AT ");
     let past_place = writing::number(out, between, place);

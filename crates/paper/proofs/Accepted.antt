@@ -2,10 +2,9 @@
 use Prim.Native.Nat.{ℕ, zero, suc, _*_, _≤_, _<_, _/_, _%_, _^_}
 use native.Mathlib.Nat.{div-add-mod'}
 use native.Mathlib.Omega.{arith}
-use mathlib.Core.Bool.{Bool, true, false, _&&_, _||_}
+use mathlib.Core.Bool.{_&&_, _||_}
 use mathlib.Core.List.{[], List, _∷_}
-use mathlib.Core.Logic.{_↔_, _⊎_, inl, inr}
-use mathlib.Core.Path.{_≡_, refl, sym, ap, _∙_}
+use mathlib.Core.Path.{_≡_, refl}
 use lib.Dec.{eqb, ltb, T, eqb→eq}
 use lib.ListN.{length, take, drop}
 use Rattle.paper.specs.declared.record.Before.{Before}
@@ -13,8 +12,8 @@ use Rattle.paper.specs.declared.record.Before.the-variants.{Nothing, Bet
 use Rattle.paper.specs.declared.record.Kind.{Kind}
 use Rattle.paper.specs.declared.record.Kind.the-variants.{FileHeader, BatchHeader, Individual, Additional, BatchControl, FileControl, Other}
 use Rattle.paper.specs.declared.rules.Rules.{Rules}
-use Rattle.paper.specs.Answers.{accepted, refused, andThen, require}
-use Rattle.paper.specs.Checks.{Check, fine, wrong, need, _also_}
+use Rattle.paper.specs.Answers.{accepted}
+use Rattle.paper.specs.Checks.{fine, _also_}
 use Rattle.paper.specs.Fields.{field, within, every, good, digits, same, is, spells}
 use Rattle.paper.specs.Dates.{dateField}
 use Rattle.paper.specs.Entities.{ofCurrency, entityField, onRoster}
@@ -22,102 +21,12 @@ use Rattle.paper.specs.Kinds.{kindOf, codeOf, known, allowed}
 use Rattle.paper.specs.Records.{member, memberField, batchHeader, amountOf, counterGood, transfer, individual}
 use Rattle.paper.specs.declared.record.Tally.{Tally}
 use Rattle.paper.specs.Controls.{batchControl, blocks, fileControl}
-use Rattle.paper.specs.Reading.{State, start, next, fields, judged, finish, at, readingFrom, parts, recordsOf, lengthGood, reading}
+use Rattle.paper.specs.Reading.{State, start, fields, judged, at, parts, recordsOf, lengthGood, reading}
 use Rattle.paper.specs.Writing.{joined}
-use Rattle.paper.specs.Demands.{Reads, FirstFault}
-use Rattle.paper.proofs.Tests.{and-l, and-r, of-T, within-range}
-use Rattle.paper.proofs.Refusals.{refused-not, both-accept}
+use Rattle.paper.specs.Demands.{Reads}
+use Rattle.paper.proofs.Tests.{and-l, and-r, within-range}
 use Rattle.paper.proofs.Lists.{Sized, joined-parts, sized-parts}
-
--- ---- a chain of checks
-
-pub wrong-not-fine : {n : ℕ} → wrong n ≡ fine → ⊥
-wrong-not-fine h = let z : _≡_ {A = ℕ} 0 1 = cc in omega arith
-
-pub also-l : (a b : Check) → a also b ≡ fine → a ≡ fine
-unfolding _also_
-also-l fine b h = refl
-also-l (wrong n) b h = h
-
-pub also-r : (a b : Check) → a also b ≡ fine → b ≡ fine
-unfolding _also_
-also-r fine b h = h
-also-r (wrong n) b h = absurd (wrong-not-fine h)
-
-pub need-T : (b : Bool) (n : ℕ) → need b n ≡ fine → T b
-unfolding need
-need-T true n h = tt
-need-T false n h = absurd (wrong-not-fine h)
-
--- ---- the records of an accepted file, one by one
-
-at-fine : (place : ℕ) (c : Check) → at place c ≡ accepted → c ≡ fine
-unfolding at
-at-fine place fine h = refl
-at-fine place (wrong n) h = absurd (refused-not h)
-
-finish-ended : (b : Before) (place : ℕ) → finish b place ≡ accepted → b ≡ Ended
-unfolding finish
-finish-ended Nothing place h = absurd (refused-not h)
-finish-ended Between place h = absurd (refused-not h)
-finish-ended Opened place h = absurd (refused-not h)
-finish-ended Flagged place h = absurd (refused-not h)
-finish-ended Inside place h = absurd (refused-not h)
-finish-ended Ended place h = refl
-
-run-reads : (rules : Rules) (rs : List (List ℕ)) (s : State) → readingFrom rules s rs ≡ accepted → Reads rules s rs
-unfolding readingFrom
-run-reads rules [] s h = finish-ended (s .before) (s .counts .place) h
-run-reads rules (r ∷ rs) s h =
-    let p = both-accept (at (s .counts .place) (judged rules s r)) (readingFrom rules (next s r) rs) h in
-    (at-fine (s .counts .place) (judged rules s r) (p .0), run-reads rules rs (next s r) (p .1))
-
-reads-run : (rules : Rules) (rs : List (List ℕ)) (s : State) → Reads rules s rs → readingFrom rules s rs ≡ accepted
-unfolding readingFrom andThen at finish
-reads-run rules [] s h = rw h refl
-reads-run rules (r ∷ rs) s h = rw (h .0) (reads-run rules rs (next s r) (h .1))
-
--- the reading accepts exactly the files of good length whose records are each without fault and end with a 9
-pub accepted-exactly : (rules : Rules) (file : List ℕ)
-    → (reading rules file ≡ accepted) ↔ (T (lengthGood (length file)) × Reads rules start (recordsOf file))
-unfolding reading andThen require
-accepted-exactly rules file = (there (lengthGood (length file)), λ h. rw (of-T (lengthGood (length file)) (h .0)) (reads-run rules (recordsOf file) start (h .1)))
-  where
-    there : (b : Bool) → andThen (require b 201 0) (readingFrom rules start (recordsOf file)) ≡ accepted → T b × Reads rules start (recordsOf file)
-    there true h = (tt, run-reads rules (recordsOf file) start h)
-    there false h = absurd (refused-not h)
-
--- ---- the first fault of a refused file
-
-finish-fault : (b : Before) (place : ℕ) {n p : ℕ} → finish b place ≡ refused n p → (b ≡ Ended → ⊥) × (n ≡ 17) × (p ≡ place)
-unfolding finish
-finish-fault Nothing place h = ((λ q. let z : _≡_ {A = ℕ} 0 1 = cc in omega arith), cc, cc)
-finish-fault Between place h = ((λ q. let z : _≡_ {A = ℕ} 0 1 = cc in omega arith), cc, cc)
-finish-fault Opened place h = ((λ q. let z : _≡_ {A = ℕ} 0 1 = cc in omega arith), cc, cc)
-finish-fault Flagged place h = ((λ q. let z : _≡_ {A = ℕ} 0 1 = cc in omega arith), cc, cc)
-finish-fault Inside place h = ((λ q. let z : _≡_ {A = ℕ} 0 1 = cc in omega arith), cc, cc)
-finish-fault Ended place h = absurd (refused-not (sym h))
-
-run-fault : (rules : Rules) (rs : List (List ℕ)) (s : State) {n place : ℕ} → readingFrom rules s rs ≡ refused n place → FirstFault rules s rs n place
-unfolding readingFrom andThen at
-run-fault rules [] s h = finish-fault (s .before) (s .counts .place) h
-run-fault rules (r ∷ rs) s {n} {place} h = go (judged rules s r) refl h (λ q. run-fault rules rs (next s r) q)
-  where
-    go : (c : Check) → judged rules s r ≡ c → andThen (at (s .counts .place) c) (readingFrom rules (next s r) rs) ≡ refused n place
-        → (readingFrom rules (next s r) rs ≡ refused n place → FirstFault rules (next s r) rs n place) → FirstFault rules s (r ∷ rs) n place
-    go fine e q later = inr (e, later q)
-    go (wrong m) e q later = let w : m ≡ n = cc in inl (e ∙ ap wrong w, cc)
-
--- a refusal is 201 at 0 for a length that is not good, else the first fault's number at its place
-pub refused-named : (rules : Rules) (file : List ℕ) {n place : ℕ} → reading rules file ≡ refused n place
-    → ((lengthGood (length file) ≡ false) × (n ≡ 201) × (place ≡ 0)) ⊎ ((lengthGood (length file) ≡ true) × FirstFault rules start (recordsOf file) n place)
-unfolding reading andThen require
-refused-named rules file {n} {place} h = go (lengthGood (length file)) refl h
-  where
-    go : (b : Bool) → lengthGood (length file) ≡ b → andThen (require b 201 0) (readingFrom rules start (recordsOf file)) ≡ refused n place
-        → ((lengthGood (length file) ≡ false) × (n ≡ 201) × (place ≡ 0)) ⊎ ((lengthGood (length file) ≡ true) × FirstFault rules start (recordsOf file) n place)
-    go true e q = inr (e, run-fault rules (recordsOf file) start q)
-    go false e q = inl (e, cc, cc)
+use Rattle.paper.proofs.Exactly.{also-l, also-r, need-T, wrong-not-fine, accepted-exactly}
 
 -- ---- facts of one record, by its type
 

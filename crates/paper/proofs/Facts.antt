@@ -3,7 +3,7 @@ use Prim.Native.Nat.{ℕ, _≤_, _<_, _%_, _^_}
 use native.Mathlib.Omega.{arith}
 use mathlib.Core.Bool.{Bool, true, false, _||_}
 use mathlib.Core.List.{[], List, _∷_}
-use mathlib.Core.Path.{_≡_, refl, sym, ap, _∙_}
+use mathlib.Core.Path.{_≡_, sym}
 use lib.Dec.{ltb, T, ltb→lt}
 use lib.ListN.{length, getD, length-take, length-drop}
 use Rattle.paper.specs.declared.record.Before.{Before}
@@ -19,7 +19,7 @@ use Rattle.paper.specs.Kinds.{kindOf, codeOf, known}
 use Rattle.paper.specs.Records.{fileHeader, amountOf, counterGood}
 use Rattle.paper.specs.Reading.{counted, State, start, flag, beforeNext, next, fields, recordsOf, reading}
 use Rattle.paper.specs.Demands.{Reads}
-use Rattle.paper.proofs.Tests.{and-l, and-r, or-go, of-T, within-range, same→eq}
+use Rattle.paper.proofs.Tests.{and-l, and-r, or-go, within-range, same→eq}
 use Rattle.paper.proofs.Lists.{Sized}
 use Rattle.paper.proofs.Digits.{number-bound}
 use Rattle.paper.proofs.Accepted.{IndividualRead, individual-read, BatchRead, batch-read, Follows, file-begins, batch-opens, file-ends, first-individual, its-additional, next-individual, batch-closes, judged-facts, accepted-facts}
@@ -134,18 +134,3 @@ shaped rules (r ∷ rs) s h = (judged-facts rules s r (h .0) .order, shaped rule
 pub file-shaped : (rules : Rules) (file : List ℕ) → reading rules file ≡ accepted → Shaped Nothing (recordsOf file)
 unfolding start
 file-shaped rules file h = shaped rules (recordsOf file) start (accepted-facts rules file h .reads)
-
--- so after a 6 with 1 in position 79 comes a 7
-pub seven-follows : (b : Before) (r q : List ℕ) (rs : List (List ℕ)) → Shaped b (r ∷ q ∷ rs) → kindOf r ≡ Individual → T (is (field r 79 79) "1")
-    → kindOf q ≡ Additional
-unfolding beforeNext flag
-seven-follows b r q rs h e t = go (beforeNext (kindOf r) r) (kindOf q) (h .1 .0) (ap (λ (k : Kind). beforeNext k r) e ∙ ap flag (of-T (is (field r 79 79) "1") t))
-  where
-    go : (b : Before) (k : Kind) → Follows b k → b ≡ Flagged → k ≡ Additional
-    go b k file-begins x = cc
-    go b k batch-opens x = cc
-    go b k first-individual x = cc
-    go b k next-individual x = cc
-    go b k its-additional x = refl
-    go b k batch-closes x = cc
-    go b k file-ends x = cc

@@ -20,7 +20,8 @@ use Rattle.paper.specs.Sessions.{Session, newSession, originOf, identifi
 use Rattle.paper.specs.Demands.{Reads, withAccepted, Came, opened, presented, identifiersFrom}
 use Rattle.paper.proofs.Tests.{and-l, or-go, T-of, within-range}
 use Rattle.paper.proofs.Lists.{one-of}
-use Rattle.paper.proofs.Accepted.{also-l, also-r, need-T, judged-facts, first-header, accepted-facts}
+use Rattle.paper.proofs.Exactly.{also-l, also-r, need-T}
+use Rattle.paper.proofs.Accepted.{judged-facts, first-header, accepted-facts}
 use Rattle.paper.proofs.Figures.{entity-lt, opened-by}
 use Rattle.paper.proofs.Own.{presented-new}
 

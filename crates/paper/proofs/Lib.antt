@@ -5,6 +5,9 @@ pub mod Beyond
 pub mod Lists
 pub mod Digits
 pub mod Sums
+pub mod Exactly
+pub mod ReadingNumbers
+pub mod Stands
 pub mod Accepted
 pub mod Facts
 pub mod Places
@@ -19,6 +22,7 @@ pub mod Program
 pub mod Closing
 pub mod Round
 pub mod Normal
+pub mod Rebuilt
 pub mod Back
 pub mod Apart
 pub mod Lent

@@ -45,6 +45,11 @@ joined-parts w zero [] h = refl
 joined-parts w zero (x ∷ l) h = absurd (omega (arith, zero-mul w))
 joined-parts w (suc n) l h = ap (λ (k : List ℕ). take w l ++ k) (joined-parts w n (drop w l) (length-drop w l ∙ omega (arith, suc-mul n w))) ∙ take-append-drop w l
 
+pub length-parts : (w n : ℕ) (l : List ℕ) → length (parts w n l) ≡ n
+unfolding parts
+length-parts w zero l = refl
+length-parts w (suc n) l = ap suc (length-parts w n (drop w l))
+
 pub sized-parts : (w n : ℕ) (l : List ℕ) → length l ≡ n * w → Sized w (parts w n l)
 unfolding parts
 sized-parts w zero l h = tt

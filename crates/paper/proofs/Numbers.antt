@@ -1,17 +1,19 @@
 -- Every fault has a number of its own, so that what an answer says is the answer.
 use Prim.Native.Nat.{ℕ}
-use mathlib.Core.Path.{_≡_, refl, sym, ap, _∙_}
+use mathlib.Core.Path.{_≡_, refl, sym, ap, _∙_, subst}
 use mathlib.Core.Bool.{cond}
 use mathlib.Core.List.{List}
-use lib.Dec.{eqb}
+use lib.Dec.{eqb, T}
 use Rattle.paper.specs.declared.answer.Fault.{Fault}
 use Rattle.paper.specs.declared.answer.Fault.the-variants.{Length, Format, Amount, Additional, Counter, Date, Reserved, Account, Reference, Information, Currency, Roster, Room, Tray, Entity, Identifier}
 use Rattle.paper.specs.declared.answer.Answer.{Answer}
 use Rattle.paper.specs.declared.answer.Answer.the-variants.{Accepted, Refused}
 use Rattle.paper.specs.declared.answer.Output.{Output}
 use Rattle.paper.specs.declared.answer.Output.the-variants.{Accepted as Wrote, Refused as Kept}
-use Rattle.paper.specs.Answers.{Said, accepted, refused, numberOf, said}
+use Rattle.paper.specs.Answers.{Said, accepted, refused, numberOf, tableNumbers, said}
+use Rattle.paper.specs.Fields.{among}
 use Rattle.paper.specs.Buffers.{Outcome, told}
+use Rattle.paper.specs.Demands.{StandsAt, Answered}
 
 -- the fault of a number
 named : ℕ → Fault
@@ -42,6 +44,41 @@ named-number Identifier = refl
 
 pub own-number : (f g : Fault) → numberOf f ≡ numberOf g → f ≡ g
 own-number f g h = sym (named-number f) ∙ ap named h ∙ named-number g
+
+-- it is one of the table's
+in-table : (f : Fault) → T (among tableNumbers (numberOf f))
+unfolding among
+in-table Length = tt
+in-table Format = tt
+in-table Amount = tt
+in-table Additional = tt
+in-table Counter = tt
+in-table Date = tt
+in-table Reserved = tt
+in-table Account = tt
+in-table Reference = tt
+in-table Information = tt
+in-table Currency = tt
+in-table Roster = tt
+in-table Room = tt
+in-table Tray = tt
+in-table Entity = tt
+in-table Identifier = tt
+
+-- so every answer whose place is known ends as it must
+pub answered : (records : ℕ) (a : Answer) {x : Said} → said a ≡ x → StandsAt records x → Answered records (said a)
+answered records a h t = go a (subst (StandsAt records) (sym h) t)
+  where
+    go : (b : Answer) → StandsAt records (said b) → Answered records (said b)
+    go Accepted t = tt
+    go (Refused f place) t = (in-table f, t)
+
+pub told-answered : (records : ℕ) (o : Output) (after : List ℕ) {x : Said} → told o after .answer ≡ x → StandsAt records x → Answered records (told o after .answer)
+told-answered records o after h t = go o (subst (StandsAt records) (sym h) t)
+  where
+    go : (b : Output) → StandsAt records (told b after .answer) → Answered records (told b after .answer)
+    go (Wrote n) t = tt
+    go (Kept f place) t = (in-table f, t)
 
 -- the answer that says it
 answering : Said → Answer

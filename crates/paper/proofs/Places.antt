@@ -5,8 +5,7 @@ use native.Mathlib.Omega.{arith}
 use mathlib.Core.Bool.{Bool, true, false}
 use mathlib.Core.List.{[], List, _∷_, _++_}
 use mathlib.Core.Path.{_≡_, refl, sym, ap, _∙_, ap₂}
-use lib.Dec.{T}
-use lib.ListN.{length, getD, take, drop, length-append}
+use lib.ListN.{length, take, drop, length-append}
 use lib.Seq.{drop-drop}
 use Rattle.paper.specs.declared.record.Before.{Before}
 use Rattle.paper.specs.declared.record.Before.the-variants.{Nothing, Between, Opened, Flagged, Inside, Ended}
@@ -15,21 +14,17 @@ use Rattle.paper.specs.declared.record.Kind.the-variants.{FileHeader, Ba
 use Rattle.paper.specs.declared.rules.Rules.{Rules}
 use Rattle.paper.specs.Answers.{accepted}
 use Rattle.paper.specs.Checks.{fine}
-use Rattle.paper.specs.Fields.{field, every, good, is}
+use Rattle.paper.specs.Fields.{field, is}
 use Rattle.paper.specs.Entities.{entity}
 use Rattle.paper.specs.Kinds.{kindOf}
 use Rattle.paper.specs.Reading.{counted, State, start, flag, beforeNext, next, fields, parts, recordsOf, reading}
 use Rattle.paper.specs.Postings.{Posting, posting, postedBy, senderAfter, postingsFrom, postings, ownPostings}
 use Rattle.paper.specs.Demands.{Reads}
+use Rattle.paper.proofs.Lists.{length-parts}
 use Rattle.paper.proofs.Accepted.{individual-read, Follows, file-begins, batch-opens, file-ends, first-individual, its-additional, next-individual, batch-closes, judged-facts, accepted-facts}
 use Rattle.paper.proofs.Facts.{Facts, AllFacts, own-sender, file-facts}
 
 -- ---- by place
-
-pub length-parts : (w n : ℕ) (l : List ℕ) → length (parts w n l) ≡ n
-unfolding parts
-length-parts w zero l = refl
-length-parts w (suc n) l = ap suc (length-parts w n (drop w l))
 
 -- the step of a loop over the records: from place i the first is the w bytes at i * w
 pub parts-from : (w n : ℕ) (l : List ℕ) (i : ℕ) → i < n → drop i (parts w n l) ≡ take w (drop (i * w) l) ∷ drop (suc i) (parts w n l)
@@ -40,23 +35,6 @@ parts-from w (suc n) l (suc i) h =
     let e : w + i * w ≡ suc i * w = omega (arith, suc-mul i w) in
     parts-from w n (drop w l) i (omega arith)
     ∙ ap (λ (x : List ℕ). take w x ∷ drop (suc i) (parts w n (drop w l))) (drop-drop (i * w) w l ∙ ap (λ (k : ℕ). drop k l) e)
-
-facts-drop : (rules : Rules) (rs : List (List ℕ)) (i : ℕ) → AllFacts rules rs → AllFacts rules (drop i rs)
-facts-drop rules rs zero a = a
-facts-drop rules [] (suc i) a = tt
-facts-drop rules (r ∷ rs) (suc i) a = facts-drop rules rs i (a .2)
-
-pub record Here (rules : Rules) (r : List ℕ) : Type 0 where
-  pub good : T (every good r)
-  pub facts : Facts rules (kindOf r) r
-
--- record i of an accepted file
-pub record-facts : (rules : Rules) (file : List ℕ) → reading rules file ≡ accepted → (i : ℕ) → i < length file / 94
-    → Here rules (take 94 (drop (i * 94) file))
-unfolding recordsOf
-record-facts rules file h i l =
-    let a : AllFacts rules (take 94 (drop (i * 94) file) ∷ drop (suc i) (recordsOf file)) = rw (parts-from 94 (length file / 94) file i l) at (facts-drop rules (recordsOf file) i (file-facts rules file h)) in
-    record { good = a .0; facts = a .1 }
 
 -- ---- each individual record names its own sender
 
@@ -106,11 +84,7 @@ postings-own rules file h = own-postings rules (recordsOf file) start 0 tt (acce
 
 pub record Sound (rules : Rules) (p : Posting) : Type 0 where
   pub sender-low : 1 ≤ p .sender
-  pub sender-high : p .sender ≤ 499
-  pub sender-listed : T (getD (rules .roster) (p .sender) false)
   pub destination-low : 1 ≤ p .destination
-  pub destination-high : p .destination ≤ 499
-  pub destination-listed : T (getD (rules .roster) (p .destination) false)
   pub some : 1 ≤ p .amount
   pub below : p .amount < 10 ^ 10
 
@@ -129,11 +103,7 @@ sound-by rules BatchHeader r f = tt
 sound-by rules Individual r f = (
   record {
     sender-low = f .sender .low;
-    sender-high = f .sender .high;
-    sender-listed = f .sender .listed;
     destination-low = f .destination .low;
-    destination-high = f .destination .high;
-    destination-listed = f .destination .listed;
     some = f .some;
     below = f .below;
   },

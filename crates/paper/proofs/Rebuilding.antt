@@ -19,9 +19,11 @@ use Rattle.paper.specs.Buffers.{over, written, roomFor, trayAnswer, buil
 use Rattle.paper.specs.Demands.{AsBuilt}
 use Rattle.paper.proofs.Refusals.{require-met}
 use Rattle.paper.proofs.Lists.{Sized, length-joined, records-joined}
-use Rattle.paper.proofs.Accepted.{accepted-exactly, accepted-facts}
+use Rattle.paper.proofs.Exactly.{accepted-exactly}
+use Rattle.paper.proofs.Accepted.{accepted-facts}
 use Rattle.paper.proofs.Round.{AllGood}
-use Rattle.paper.proofs.Back.{kind-zeroed, stripped-sized, build-strips-back}
+use Rattle.paper.proofs.Rebuilt.{kind-zeroed}
+use Rattle.paper.proofs.Back.{stripped-sized, build-strips-back}
 
 good-all : (ts : List (List ℕ)) (place : ℕ) → AllGood ts → trayFault place ts ≡ accepted
 unfolding trayFault andThen

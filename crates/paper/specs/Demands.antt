@@ -1,29 +1,45 @@
 -- The words in which the three demands are stated.
 use Prim.Native.Nat.{ℕ, zero, suc, _*_, _≤_, _^_}
 use mathlib.Core.Path.{_≡_}
-use mathlib.Core.Bool.{Bool, false, cond, _||_}
+use mathlib.Core.Bool.{Bool, true, false, cond, _||_}
 use mathlib.Core.List.{List, [], _∷_, _++_, map}
 use mathlib.Core.Logic.{_⊎_}
 use lib.Dec.{T, eqb}
 use lib.IntN.{ℤ, pos, natAbs, _+ℤ_}
-use lib.ListN.{getD}
+use lib.ListN.{length, getD}
 use Rattle.paper.specs.declared.rules.Rules.{Rules}
 use Rattle.paper.specs.declared.rules.Currency.{Currency}
 use Rattle.paper.specs.declared.ledger.Cell.{Cell}
 use Rattle.paper.specs.declared.record.Before.the-variants.{Ended}
 use Rattle.paper.specs.declared.record.Kind.{Kind}
 use Rattle.paper.specs.declared.record.Kind.the-variants.{FileHeader, BatchHeader, Individual, Additional, BatchControl, FileControl, Other}
-use Rattle.paper.specs.Answers.{Said, accepted, refused}
+use Rattle.paper.specs.Answers.{Said, accepted, refused, tableNumbers}
 use Rattle.paper.specs.Checks.{fine, wrong}
-use Rattle.paper.specs.Fields.{field, within}
+use Rattle.paper.specs.Fields.{field, within, among}
 use Rattle.paper.specs.Entities.{entity}
 use Rattle.paper.specs.Kinds.{kindOf}
-use Rattle.paper.specs.Reading.{State, judged, next, recordsOf}
+use Rattle.paper.specs.Reading.{State, start, judged, next, recordsOf, lengthGood}
 use Rattle.paper.specs.Postings.{Posting, postings, position, sent, received}
 use Rattle.paper.specs.Sessions.{Session, opening, presenting, originOf, identifierOf}
 use Rattle.paper.specs.Writing.{spelled, blanks}
 use Rattle.paper.specs.Extract.{Item, Batch, batchesOf, itemsTo}
 use Rattle.paper.specs.Trays.{batchesAfter, individualsAfter}
+
+-- ---- any input ends with an answer
+
+-- "Places for 201, 206, 208, 209 and any refusal tied to no record are 0"
+abbrev pub untied : List ℕ
+untied = 201 ∷ 206 ∷ 208 ∷ 209 ∷ []
+
+-- a refusal stands at one of so many records, or one past the last; at 0 where its number is tied to no record
+abbrev pub StandsAt : ℕ → Said → Type 0
+StandsAt records accepted = Unit {0}
+StandsAt records (refused n place) = (place ≤ records) × (T (among untied n) → place ≡ 0)
+
+-- acceptance, or a refusal number of the table with the record it stands at
+abbrev pub Answered : ℕ → Said → Type 0
+Answered records accepted = Unit {0}
+Answered records (refused n place) = T (among tableNumbers n) × StandsAt records (refused n place)
 
 -- ---- exactly when
 
@@ -37,6 +53,15 @@ abbrev pub FirstFault : Rules → State → List (List ℕ) → ℕ → ℕ → 
 FirstFault rules s [] n place = (s .before ≡ Ended → ⊥) × (n ≡ 17) × (place ≡ s .counts .place)
 FirstFault rules s (r ∷ rs) n place =
     ((judged rules s r ≡ wrong n) × (place ≡ s .counts .place)) ⊎ ((judged rules s r ≡ fine) × FirstFault rules (next s r) rs n place)
+
+-- 01 accepts a file: its length is good, its records are each without fault, and they end with a 9
+abbrev pub Accepts : Rules → List ℕ → Type 0
+Accepts rules file = T (lengthGood (length file)) × Reads rules start (recordsOf file)
+
+-- the first fault of a file: 201 at 0 for its length, else that of its records
+abbrev pub Faulty : Rules → List ℕ → ℕ → ℕ → Type 0
+Faulty rules file n place =
+    ((lengthGood (length file) ≡ false) × (n ≡ 201) × (place ≡ 0)) ⊎ ((lengthGood (length file) ≡ true) × FirstFault rules start (recordsOf file) n place)
 
 -- ---- after any calls
 

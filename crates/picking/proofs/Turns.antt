@@ -1,5 +1,4 @@
 -- The pass over a file, turn by turn.
--- Assumes nothing.
 use Prim.Native.Nat.{ℕ, suc, _+_, _/_, _≤_, _<_}
 use mathlib.Core.Bool.{false, false≢true}
 use mathlib.Core.List.{List, [], _∷_, _++_, append-nil, append-assoc}
@@ -8,7 +7,8 @@ use native.Mathlib.Omega.{arith}
 use lib.ListN.{length, drop, drop-of-length-le}
 use Rattle.paper.specs.Kinds.{kindOf}
 use Rattle.paper.specs.Reading.{parts, recordsOf}
-use Rattle.paper.proofs.Places.{length-parts, parts-from}
+use Rattle.paper.proofs.Places.{parts-from}
+use Rattle.paper.proofs.Lists.{length-parts}
 use Rattle.state.specs.States.{recordAt}
 use Rattle.picking.specs.declared.Picking.{Picking}
 use Rattle.picking.specs.Picking.{passing, pickedBy, picked, opened}

@@ -15,7 +15,8 @@ use Rattle.paper.specs.Fields.{every, good}
 use Rattle.paper.specs.Kinds.{kindOf, allowed}
 use Rattle.paper.specs.Reading.{judged}
 use Rattle.paper.proofs.Tests.{and-l, and-r, T-of, of-T}
-use Rattle.paper.proofs.Accepted.{wrong-not-fine, Follows, follows, file-begins, batch-opens, file-ends, first-individual, its-additional, next-individual, batch-closes}
+use Rattle.paper.proofs.Exactly.{wrong-not-fine}
+use Rattle.paper.proofs.Accepted.{Follows, follows, file-begins, batch-opens, file-ends, first-individual, its-additional, next-individual, batch-closes}
 use Rattle.state.specs.declared.State.{State}
 use Rattle.state.specs.States.{recordAt, meant, stops, outcome, stepped, Standing}
 use Rattle.reading.specs.Taken.{taken}

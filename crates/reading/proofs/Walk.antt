@@ -15,7 +15,8 @@ use Rattle.paper.specs.Controls.{zeros}
 use Rattle.paper.specs.Reading as paper
 use Rattle.paper.specs.Reading.{nothingCounted, start, judged, next, finish, at, readingFrom, parts, recordsOf, lengthGood, reading}
 use Rattle.paper.proofs.Tests.{T-of, within-range, and-l}
-use Rattle.paper.proofs.Places.{parts-from, length-parts}
+use Rattle.paper.proofs.Places.{parts-from}
+use Rattle.paper.proofs.Lists.{length-parts}
 use Rattle.state.specs.declared.State.{State}
 use Rattle.state.specs.States.{recordAt, meant, goes, stops, outcome}
 

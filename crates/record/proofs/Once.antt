@@ -1,7 +1,7 @@
 -- What a verdict says fixes it.
 use mathlib.Core.Path.{_≡_, refl, sym, ap}
 use Rattle.paper.specs.Answers.{numberOf}
-use Rattle.paper.proofs.Accepted.{wrong-not-fine}
+use Rattle.paper.proofs.Exactly.{wrong-not-fine}
 use Rattle.paper.proofs.Numbers.{own-number}
 use Rattle.record.specs.declared.verdict.Verdict.{Verdict}
 use Rattle.record.specs.declared.verdict.Verdict.the-variants.{Right, Wrong}

@@ -1,5 +1,4 @@
 -- The records of a file in order, on the tray.
--- Assumes nothing.
 use Prim.Native.Nat.{ℕ, _+_, _-_, _*_, _/_, _≤_, _<_}
 use mathlib.Core.List.{List, [], _∷_, _++_, append-nil, head-eq-of-cons-eq}
 use mathlib.Core.Path.{_≡_, refl, sym, ap, _∙_}
@@ -13,8 +12,8 @@ use Rattle.paper.specs.Reading.{recordsOf}
 use Rattle.paper.specs.Writing.{joined}
 use Rattle.paper.specs.Trays.{marked, stripped, strip}
 use Rattle.paper.specs.Buffers.{over}
-use Rattle.paper.proofs.Lists.{joined-append}
-use Rattle.paper.proofs.Places.{length-parts, parts-from}
+use Rattle.paper.proofs.Lists.{joined-append, length-parts}
+use Rattle.paper.proofs.Places.{parts-from}
 use Rattle.paper.proofs.Round.{stripped-append}
 use Rattle.state.specs.States.{recordAt}
 use Rattle.writing.proofs.Laying.{Wrote, on, again, whole, kept, rest-laid}

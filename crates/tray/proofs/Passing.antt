@@ -1,5 +1,4 @@
 -- The passes over a tray, one record further: the first bad record, and the batches that are opened.
--- Assumes nothing.
 use Prim.Native.Nat.{ℕ, _+_, _/_, _≤_, _<_}
 use mathlib.Core.Bool.{Bool, true, false, cond}
 use mathlib.Core.List.{List}

@@ -1,5 +1,4 @@
 -- The records of a tray, by their places, and what a tray that 207 does not refuse holds.
--- Assumes nothing.
 use Prim.Native.Nat.{ℕ, zero, suc, _+_, _*_, _/_, _%_, _≤_, _<_}
 use mathlib.Core.Bool.{_&&_}
 use mathlib.Core.List.{List, [], _∷_, map}
@@ -21,8 +20,8 @@ use Rattle.paper.specs.Trays.{trayRecords, markGood, trayRecordGood, trayFault}
 use Rattle.paper.specs.Buffers.{trayAnswer}
 use Rattle.paper.proofs.Tests.{and-l, and-r}
 use Rattle.paper.proofs.Refusals.{both-accept, required}
-use Rattle.paper.proofs.Lists.{Sized, sized-parts}
-use Rattle.paper.proofs.Places.{length-parts, parts-from}
+use Rattle.paper.proofs.Lists.{Sized, sized-parts, length-parts}
+use Rattle.paper.proofs.Places.{parts-from}
 use Rattle.paper.proofs.Round.{AllGood, all-good, body}
 use Rattle.tray.specs.Trays.{trayRecordAt, bodyAt, bodies, Sound}
 

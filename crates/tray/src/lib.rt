@@ -14,6 +14,8 @@ use paper::answer::Fault;
 use paper::record::Kind;
 use state::State;
 
+pub mod pieces;
+
 pub struct Tray {}
 
 impl Tray {

@@ -1,5 +1,4 @@
 -- The answer of a job that writes into a lent buffer, where the size of what it writes is known.
--- Assumes nothing.
 use Prim.Native.Nat.{ℕ, _≤_, _<_}
 use mathlib.Core.List.{List}
 use mathlib.Core.Path.{_≡_, refl}

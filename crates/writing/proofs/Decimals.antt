@@ -1,5 +1,4 @@
 -- Numbers in as many digits as they need: how many these are, and that they spell the number.
--- Assumes nothing.
 use Prim.Native.Nat.{ℕ, zero, suc, _+_, _-_, _≤_, _<_, _/_, _%_, _^_}
 use mathlib.Core.Bool.{Bool, true, false, _&&_, cond}
 use mathlib.Core.List.{List, [], _∷_, _++_}

@@ -1,5 +1,4 @@
 -- Signed numbers that fit 64 bits, their signs and their opposites.
--- Assumes nothing.
 use Prim.Native.Nat.{ℕ, zero, suc, _*_, _^_, _≤_}
 use mathlib.Core.Bool.{true, false}
 use mathlib.Core.Path.{_≡_, refl}

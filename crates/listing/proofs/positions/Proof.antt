@@ -1,18 +1,18 @@
-use Prim.Native.Nat.{ℕ}
-use mathlib.Core.Path.{_≡_, ap, _∙_}
+use mathlib.Core.Path.{_≡_}
 use borrow.Author.Needs.{needs}
-use Rattle.paper.specs.Listing.{refusalLine, dateIn, currencyIn, numbersTo}
+use Rattle.paper.specs.Listing.{dateIn, currencyIn, numbersTo}
 use Rattle.paper.specs.Sessions.{opening}
 use Rattle.desk.specs.Standing.{heard}
-use Rattle.listing.proofs.Printing.{retold, too-long, as-printed}
+use Rattle.listing.proofs.Printing.{retold, refusal-there, too-long, as-printed}
 use Rattle.listing.proofs.positions.Statement.{statement}
 use Rattle.listing.proofs.positions.Tie as tie
 
 returns : tie.Need-returns
 returns c =
-    let n = c .before .before in
-    let a = n .before .before .before .args in
-    retold (a .out .now) (ap (λ (m : ℕ). refusalLine m 0) (n .number .ensures) ∙ too-long (a .input .now) (n .before .if1 .taken)) (c .refusal .ensures)
+    let n = c .before in
+    let i = n .before .before in
+    let a = i .before .before .args in
+    refusal-there _ (a .out .now) (n .number .ensures) (too-long (a .input .now) (i .if1 .taken)) (c .refusal .ensures)
 
 returns-2 : tie.Need-returns-2
 returns-2 c =

@@ -1,9 +1,8 @@
-use Prim.Native.Nat.{ℕ}
 use mathlib.Core.Path.{ap, _∙_}
 use borrow.Author.Needs.{needs}
-use Rattle.paper.specs.Listing.{listing, refusalLine}
+use Rattle.paper.specs.Listing.{listing}
 use Rattle.desk.proofs.Calls.{room, sums-room}
-use Rattle.listing.proofs.Printing.{retold, as-listing, as-refusal}
+use Rattle.listing.proofs.Printing.{retold, refusal-there, as-listing, as-refusal}
 use Rattle.listing.proofs.print.Statement.{statement}
 use Rattle.listing.proofs.print.Tie as tie
 
@@ -21,10 +20,10 @@ returns c =
 
 returns-2 : tie.Need-returns-2
 returns-2 c =
-    let k = c .before .before in
-    let a = k .before .before .before .before .before .args in
-    let place = k .before .before .answer .given .0 .1 .0 in
-    retold (a .out .now) (ap (λ (n : ℕ). refusalLine n place) (k .number .ensures) ∙ as-refusal _ _ (k .before .before .answer .given .1)) (c .refusal .ensures)
+    let k = c .before in
+    let f = k .before .before .before in
+    let a = f .before .before .before .args in
+    refusal-there _ (a .out .now) (k .number .ensures) (as-refusal _ _ (f .answer .given .1)) (c .refusal .ensures)
 
 pub print-spec : {M : Type 1} → statement M
 print-spec =

@@ -3,7 +3,7 @@ use borrow.Author.Needs.{needs}
 use Rattle.paper.specs.Checks.{fine, need}
 use Rattle.paper.specs.Fields.{every, good}
 use Rattle.paper.specs.Kinds.{allowed, kindOf}
-use Rattle.paper.proofs.Accepted.{also-r}
+use Rattle.paper.proofs.Exactly.{also-r}
 use Rattle.state.specs.States.{heard, recordAt, Kept}
 use Rattle.record.specs.Verdicts.{told}
 use Rattle.record.proofs.Chain.{begun}

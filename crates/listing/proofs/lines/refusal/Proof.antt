@@ -3,9 +3,9 @@ use borrow.Author.Needs.{needs}
 use native.Mathlib.Omega.{arith}
 use Rattle.paper.specs.Fields.{bytes}
 use Rattle.paper.specs.Listing.{decimal, lineFeed, refusalLine}
-use Rattle.listing.proofs.lines.refusal.Statement.{statement}
 use Rattle.writing.proofs.Decimals.{decimal-most}
-use Rattle.writing.proofs.Laying.{Wrote, start, on, whole}
+use Rattle.writing.proofs.Laying.{Wrote, start, on}
+use Rattle.listing.proofs.lines.refusal.Statement.{statement}
 use Rattle.listing.proofs.lines.refusal.Tie as tie
 
 number-requires : tie.Need-number-requires
@@ -32,10 +32,11 @@ returns c =
     let j = k .before .before .before in
     let i = j .before .before in
     let a = i .before .before .before .args in
-    let none : Wrote 0 [] (a .out .now) (a .out .now) 0 = start (omega arith) in
+    let none : Wrote (a .at) [] (a .out .now) (a .out .now) (a .at) = start (omega (arith, i)) in
     let named = on (on none (bytes "REFUSED ") (i .text .ensures)) (decimal (a .number)) (j .number .ensures) in
     let placed = on (on named (bytes " AT ") (k .text2 .ensures)) (decimal (a .place)) (l .number2 .ensures) in
-    whole (on placed lineFeed (c .text3 .ensures))
+    let line = on placed lineFeed (c .text3 .ensures) in
+    (line .next, line .held)
 
 pub refusal-spec : {M : Type 1} → statement M
 refusal-spec =

@@ -6,21 +6,21 @@ use mathlib.Core.Logic.{_⊎_, inl, inr, ⊎-map}
 use mathlib.Core.Path.{_≡_, sym, subst}
 use lib.Dec.{T}
 use lib.ListN.{length}
 use Rattle.paper.specs.declared.record.Before.{Before}
 use Rattle.paper.specs.declared.record.Before.the-variants.{Nothing, Between, Opened, Flagged, Inside, Ended}
 use Rattle.paper.specs.declared.record.Kind.{Kind}
 use Rattle.paper.specs.declared.record.Kind.the-variants.{FileHeader, BatchHeader, Individual, Additional, BatchControl, FileControl, Other}
 use Rattle.paper.specs.declared.rules.Rules.{Rules}
 use Rattle.paper.specs.Answers.{refused}
 use Rattle.paper.specs.Checks.{Check, fine, wrong, need, _also_}
 use Rattle.paper.specs.Fields.{among, every, good}
 use Rattle.paper.specs.Kinds.{kindOf, codeOf, rejects, allowed}
 use Rattle.paper.specs.Records.{member, memberField, fileHeader, batchHeader, transfer, individual, additional99, additional05, additionalBy, additional}
 use Rattle.paper.specs.declared.record.Tally.{Tally}
 use Rattle.paper.specs.Controls.{batchControl, fileControl}
 use Rattle.paper.specs.Reading.{State, start, next, fields, judged, recordsOf, lengthGood, reading}
 use Rattle.paper.specs.Demands.{FirstFault}
-use Rattle.paper.proofs.Accepted.{refused-named}
+use Rattle.paper.proofs.Exactly.{refused-exactly}
 
 abbrev pub recordNumbers : List ℕ
 recordNumbers = 17 ∷ 19 ∷ 25 ∷ 27 ∷ 75 ∷ 77 ∷ 78 ∷ 79 ∷ 87 ∷ 203 ∷ 204 ∷ []
@@ -104,7 +104,7 @@ judged-named rules s r =
 
 -- ---- so has the first fault of a file
 
-first-named : (rules : Rules) (rs : List (List ℕ)) (s : State) (n place : ℕ) → FirstFault rules s rs n place → T (among recordNumbers n)
+pub first-named : (rules : Rules) (rs : List (List ℕ)) (s : State) (n place : ℕ) → FirstFault rules s rs n place → T (among recordNumbers n)
 unfolding Named among
 first-named rules [] s n place f = subst (λ (m : ℕ). T (among recordNumbers m)) (sym (f .1)) tt
 first-named rules (r ∷ rs) s n place (inl f) = subst Named (f .0) (judged-named rules s r)
@@ -114,4 +114,4 @@ first-named rules (r ∷ rs) s n place (inr f) = first-named rules rs (next s r)
 pub reading-number : (rules : Rules) (file : List ℕ) {n place : ℕ} → reading rules file ≡ refused n place
     → ((lengthGood (length file) ≡ false) × (n ≡ 201)) ⊎ T (among recordNumbers n)
 reading-number rules file {n} {place} h =
-    ⊎-map (λ x. (x .0, x .1)) (λ x. first-named rules (recordsOf file) start n place (x .1)) (refused-named rules file h)
+    ⊎-map (λ x. (x .0, x .1)) (λ x. first-named rules (recordsOf file) start n place (x .1)) (refused-exactly rules file .0 h)

@@ -1,0 +1,237 @@
+/* The library called from C, on case L. Usage: desk_test samples/case-l.txt. Ends non-zero at the first thing that is not as it should be. */
+#include "desk.h"
+
+#include <stdio.h>
+#include <stdlib.h>
+#include <string.h>
+
+#define L_LENGTH 940
+#define TRAY_LENGTH (6 * SHAYDHOQEL_TRAY_RECORD)
+#define EXTRACT_LENGTH (5 * SHAYDHOQEL_RECORD)
+#define DATE 250630
+
+/* A character that no record may hold. */
+#define JUNK 0xa5
+
+/* The arguments of an opening, and a slice as pointer and length. */
+#define OPENING DATE, false, members, 3
+#define SLICE(array) (array), sizeof(array) / sizeof((array)[0])
+
+static const uint64_t members[] = {401, 402, 403};
+static uint8_t l[L_LENGTH];
+static uint8_t tray[TRAY_LENGTH];
+static uint8_t file_out[SHAYDHOQEL_FILE_LIMIT];
+static uint8_t tray_out[SHAYDHOQEL_TRAY_ROOM];
+static uint8_t listing_out[SHAYDHOQEL_LISTING];
+
+/* No assert: that may be compiled out. */
+static void require(bool holds, const char *what, int line) {
+    if (!holds) {
+        fprintf(stderr, "desk_test.c:%d: not so: %s\n", line, what);
+        exit(1);
+    }
+}
+#define REQUIRE(what) require((what), #what, __LINE__)
+
+static bool says(struct shaydhoqel_spoken answer, uint64_t number, uint64_t place) {
+    return answer.number == number && answer.place == place;
+}
+
+static bool all(uint8_t byte, const uint8_t *bytes, size_t length) {
+    for (size_t i = 0; i < length; i++) {
+        if (bytes[i] != byte) {
+            return false;
+        }
+    }
+    return true;
+}
+
+/* What is expected stands first in the buffer, and behind it what was there before. */
+static bool holds(const uint8_t *buffer, size_t buffer_length, const void *text, size_t length) {
+    return memcmp(buffer, text, length) == 0 && all(JUNK, buffer + length, buffer_length - length);
+}
+
+static void refill(void) {
+    memset(file_out, JUNK, sizeof file_out);
+    memset(tray_out, JUNK, sizeof tray_out);
+    memset(listing_out, JUNK, sizeof listing_out);
+}
+
+static const char *mark_of(uint8_t kind) {
+    switch (kind) {
+    case '5':
+        return "LO";
+    case '6':
+        return "IN";
+    case '7':
+        return "AD";
+    default:
+        return NULL;
+    }
+}
+
+/* The tray of case L, made by hand. */
+static void make_tray(void) {
+    uint8_t *to = tray;
+    for (const uint8_t *body = l; body < l + L_LENGTH; body += SHAYDHOQEL_RECORD) {
+        const char *mark = mark_of(*body);
+        if (mark != NULL) {
+            memcpy(to, mark, 2);
+            memcpy(to + 2, body, 87);
+            memset(to + 89, '0', 7);
+            to += SHAYDHOQEL_TRAY_RECORD;
+        }
+    }
+    REQUIRE(to == tray + TRAY_LENGTH);
+}
+
+static void reads(void) {
+    bool roster[SHAYDHOQEL_ENTITIES] = {false};
+    roster[401] = roster[402] = roster[403] = true;
+    REQUIRE(says(shaydhoqel_read(DATE, false, roster, SLICE(l)), SHAYDHOQEL_ACCEPTED, 10));
+    REQUIRE(says(shaydhoqel_read(DATE, true, roster, SLICE(l)), SHAYDHOQEL_REFUSED_CURRENCY, 0));
+    REQUIRE(says(shaydhoqel_read(DATE + 1, false, roster, SLICE(l)), SHAYDHOQEL_REFUSED_DATE, 0));
+    REQUIRE(says(shaydhoqel_read(DATE, false, roster, NULL, 0), SHAYDHOQEL_REFUSED_LENGTH, 0));
+    roster[403] = false;
+    REQUIRE(says(shaydhoqel_read(DATE, false, roster, SLICE(l)), SHAYDHOQEL_REFUSED_ROSTER, 3));
+}
+
+struct figures {
+    int64_t positions[SHAYDHOQEL_ENTITIES];
+    uint64_t sent[SHAYDHOQEL_ENTITIES];
+    uint64_t received[SHAYDHOQEL_ENTITIES];
+};
+
+static void day_with_the_file_twice(void) {
+    static struct figures cells, expected;
+    static uint8_t files[2 * L_LENGTH];
+    const uint64_t ends[] = {L_LENGTH, 2 * L_LENGTH};
+    uint64_t answers[] = {1, 2, 3, 4, 5};
+    const uint64_t expected_answers[] = {0, 0, SHAYDHOQEL_REFUSED_IDENTIFIER, 0, 5};
+    const char text[] = "ENTITY SENT RECEIVED NET\n401 2 1 60000\n402 0 1 -12500\n403 1 1 -47500\nSUM 3 3 0\n";
+    memcpy(files, l, L_LENGTH);
+    memcpy(files + L_LENGTH, l, L_LENGTH);
+    memset(&cells, JUNK, sizeof cells);
+    REQUIRE(says(shaydhoqel_day(OPENING, SLICE(ends), SLICE(files), SLICE(answers), cells.positions, cells.sent, cells.received),
+                 SHAYDHOQEL_ACCEPTED, 0));
+    REQUIRE(memcmp(answers, expected_answers, sizeof answers) == 0);
+    expected.positions[401] = 60000;
+    expected.positions[402] = -12500;
+    expected.positions[403] = -47500;
+    expected.sent[401] = 2;
+    expected.sent[403] = expected.received[401] = expected.received[402] = expected.received[403] = 1;
+    REQUIRE(memcmp(&cells, &expected, sizeof cells) == 0);
+    refill();
+    REQUIRE(shaydhoqel_day_listing(OPENING, SLICE(ends), SLICE(files), listing_out) == strlen(text));
+    REQUIRE(holds(SLICE(listing_out), text, strlen(text)));
+    refill();
+    REQUIRE(shaydhoqel_listing(SLICE(l), listing_out) == strlen(text));
+    REQUIRE(holds(SLICE(listing_out), text, strlen(text)));
+}
+
+/* Nothing is lent but where the cells go: NULL where the length is 0. */
+static void empty_days(void) {
+    static struct figures cells, zeros;
+    const char refusal[] = "REFUSED 201 AT 0\n", nothing[] = "ENTITY SENT RECEIVED NET\nSUM 0 0 0\n";
+    const uint64_t end = 0;
+    memset(&cells, JUNK, sizeof cells);
+    REQUIRE(says(shaydhoqel_day(DATE, false, NULL, 0, NULL, 0, NULL, 0, NULL, 0, cells.positions, cells.sent, cells.received),
+                 SHAYDHOQEL_ACCEPTED, 0));
+    REQUIRE(memcmp(&cells, &zeros, sizeof cells) == 0);
+    REQUIRE(says(shaydhoqel_day(OPENING, &end, 1, NULL, 0, NULL, 0, cells.positions, cells.sent, cells.received),
+                 SHAYDHOQEL_ACCEPTED, 0));
+    refill();
+    REQUIRE(shaydhoqel_day_listing(DATE, false, NULL, 0, NULL, 0, NULL, 0, listing_out) == strlen(nothing));
+    REQUIRE(holds(SLICE(listing_out), nothing, strlen(nothing)));
+    refill();
+    REQUIRE(shaydhoqel_listing(NULL, 0, listing_out) == strlen(refusal));
+    REQUIRE(holds(SLICE(listing_out), refusal, strlen(refusal)));
+}
+
+static void bad_openings(void) {
+    static struct figures cells, zeros;
+    const uint64_t end = L_LENGTH, bad[] = {401, 402, 403, 500};
+    uint64_t answer[2];
+    REQUIRE(says(shaydhoqel_day(DATE + 1, false, SLICE(bad), NULL, 0, NULL, 0, NULL, 0, cells.positions, cells.sent, cells.received),
+                 SHAYDHOQEL_REFUSED_DATE, 0));
+    memset(&cells, JUNK, sizeof cells);
+    REQUIRE(says(shaydhoqel_day(DATE, false, SLICE(bad), &end, 1, SLICE(l), SLICE(answer), cells.positions, cells.sent, cells.received),
+                 SHAYDHOQEL_REFUSED_ENTITY, 0));
+    REQUIRE(answer[0] == SHAYDHOQEL_REFUSED_DATE && answer[1] == 0);
+    REQUIRE(memcmp(&cells, &zeros, sizeof cells) == 0);
+    refill();
+    REQUIRE(says(shaydhoqel_extract(DATE, false, SLICE(bad), 402, SLICE(l), SLICE(file_out)), SHAYDHOQEL_REFUSED_ENTITY, 0));
+    REQUIRE(says(shaydhoqel_strip(DATE, false, SLICE(bad), SLICE(l), SLICE(tray_out)), SHAYDHOQEL_REFUSED_DATE, 0));
+    REQUIRE(all(JUNK, SLICE(file_out)) && all(JUNK, SLICE(tray_out)));
+}
+
+static void extracts(void) {
+    char expected[EXTRACT_LENGTH + 1];
+    snprintf(expected, sizeof expected, "%-40s%-23s%-31s%.188s%-79s%s%-94s", "101 040200000 9999000102506301230A094101", "BANCO 401", "CAMARA",
+             (const char *)l + SHAYDHOQEL_RECORD, "820000000100040200010000000125000000000000003050001091", "040100010000001",
+             "9000001000001000000010004020001000000012500000000000000");
+    refill();
+    REQUIRE(says(shaydhoqel_extract(OPENING, 404, SLICE(l), SLICE(file_out)), SHAYDHOQEL_REFUSED_ENTITY, 0));
+    REQUIRE(says(shaydhoqel_extract(OPENING, 402, l, L_LENGTH - 1, SLICE(file_out)), SHAYDHOQEL_REFUSED_LENGTH, 0));
+    REQUIRE(says(shaydhoqel_extract(OPENING, 402, SLICE(l), file_out, EXTRACT_LENGTH - 1), SHAYDHOQEL_REFUSED_ROOM, 0));
+    REQUIRE(says(shaydhoqel_extract(OPENING, 402, SLICE(l), NULL, 0), SHAYDHOQEL_REFUSED_ROOM, 0));
+    REQUIRE(all(JUNK, SLICE(file_out)));
+    REQUIRE(says(shaydhoqel_extract(OPENING, 402, SLICE(l), file_out, EXTRACT_LENGTH), SHAYDHOQEL_ACCEPTED, EXTRACT_LENGTH));
+    REQUIRE(holds(SLICE(file_out), expected, EXTRACT_LENGTH));
+}
+
+static void strips(void) {
+    refill();
+    REQUIRE(says(shaydhoqel_strip(OPENING, NULL, 0, NULL, 0), SHAYDHOQEL_REFUSED_LENGTH, 0));
+    REQUIRE(says(shaydhoqel_strip(OPENING, l, L_LENGTH - SHAYDHOQEL_RECORD, SLICE(tray_out)), SHAYDHOQEL_REFUSED_FORMAT, 9));
+    REQUIRE(says(shaydhoqel_strip(OPENING, SLICE(l), tray_out, TRAY_LENGTH - 1), SHAYDHOQEL_REFUSED_ROOM, 0));
+    REQUIRE(all(JUNK, SLICE(tray_out)));
+    REQUIRE(says(shaydhoqel_strip(OPENING, SLICE(l), SLICE(tray_out)), SHAYDHOQEL_ACCEPTED, TRAY_LENGTH));
+    REQUIRE(holds(SLICE(tray_out), tray, TRAY_LENGTH));
+}
+
+/* The header body is case L's first record. */
+static struct shaydhoqel_spoken build(const uint8_t *from, size_t length, size_t room) {
+    return shaydhoqel_build(OPENING, l, SHAYDHOQEL_RECORD, from, length, file_out, room);
+}
+
+static void builds(void) {
+    static uint8_t long_tray[9999 * SHAYDHOQEL_TRAY_RECORD];
+    uint8_t changed[TRAY_LENGTH];
+    for (size_t i = 0; i < 9999; i++) {
+        memcpy(long_tray + i * SHAYDHOQEL_TRAY_RECORD, tray + 5 * SHAYDHOQEL_TRAY_RECORD, SHAYDHOQEL_TRAY_RECORD);
+    }
+    memcpy(changed, tray, TRAY_LENGTH);
+    changed[3 * SHAYDHOQEL_TRAY_RECORD] = 'X';
+    refill();
+    REQUIRE(says(shaydhoqel_build(OPENING, NULL, 0, SLICE(tray), SLICE(file_out)), SHAYDHOQEL_REFUSED_TRAY, 0));
+    REQUIRE(says(build(changed, TRAY_LENGTH, L_LENGTH), SHAYDHOQEL_REFUSED_TRAY, 3));
+    REQUIRE(says(build(SLICE(long_tray), 0), SHAYDHOQEL_REFUSED_LENGTH, 0));
+    REQUIRE(says(build(tray, TRAY_LENGTH, L_LENGTH - 1), SHAYDHOQEL_REFUSED_ROOM, 0));
+    REQUIRE(all(JUNK, SLICE(file_out)));
+    REQUIRE(says(build(tray, TRAY_LENGTH, sizeof file_out), SHAYDHOQEL_ACCEPTED, L_LENGTH));
+    REQUIRE(holds(SLICE(file_out), l, L_LENGTH));
+    refill();
+    REQUIRE(says(build(NULL, 0, sizeof file_out), SHAYDHOQEL_ACCEPTED, 2 * SHAYDHOQEL_RECORD));
+    refill();
+    memcpy(changed, tray, TRAY_LENGTH);
+    memset(changed + SHAYDHOQEL_TRAY_RECORD + 31, '0', 10);
+    REQUIRE(says(build(changed, TRAY_LENGTH, sizeof file_out), SHAYDHOQEL_REFUSED_AMOUNT, 2));
+    REQUIRE(all(' ', file_out, L_LENGTH) && all(JUNK, file_out + L_LENGTH, sizeof file_out - L_LENGTH));
+}
+
+int main(int argc, char **argv) {
+    FILE *sample = argc == 2 ? fopen(argv[1], "rb") : NULL;
+    REQUIRE(sample != NULL);
+    REQUIRE(fread(l, 1, L_LENGTH, sample) == L_LENGTH && fgetc(sample) == EOF);
+    fclose(sample);
+    make_tray();
+    reads();
+    day_with_the_file_twice();
+    empty_days();
+    bad_openings();
+    extracts();
+    strips();
+    builds();
+    return 0;
+}

@@ -1,0 +1,177 @@
+//! The functions of the proved library, each as a safe one over what the caller lends; the only file with `unsafe`.
+//!
+//! `include/desk.h` says of each what it answers, and what it leaves in the buffers. The rest of this crate is these calls with buffers
+//! of its own and answers taken apart.
+
+use crate::{Currency, Opening, Roster, ENTITIES, LISTING};
+
+#[cfg(not(target_pointer_width = "64"))]
+compile_error!("the proved library counts bytes in 64 bits");
+
+/// An answer in two numbers: 0 and a count, or the refusal number and its place.
+#[repr(C)]
+#[derive(Clone, Copy, Debug, PartialEq, Eq)]
+pub struct Spoken {
+    pub number: u64,
+    pub place: u64,
+}
+
+// A slice is two arguments, its pointer and its length: as one argument of sixteen bytes it would go to the stack whole where one
+// register is left.
+unsafe extern "C" {
+    fn shaydhoqel_read(
+        date: u64,
+        dollars: bool,
+        roster: &Roster,
+        file: *const u8,
+        file_length: usize,
+    ) -> Spoken;
+
+    fn shaydhoqel_day(
+        date: u64,
+        dollars: bool,
+        entities: *const u64,
+        entities_length: usize,
+        ends: *const u64,
+        ends_length: usize,
+        files: *const u8,
+        files_length: usize,
+        answers: *mut u64,
+        answers_length: usize,
+        positions: &mut [i64; ENTITIES],
+        sent: &mut [u64; ENTITIES],
+        received: &mut [u64; ENTITIES],
+    ) -> Spoken;
+
+    fn shaydhoqel_day_listing(
+        date: u64,
+        dollars: bool,
+        entities: *const u64,
+        entities_length: usize,
+        ends: *const u64,
+        ends_length: usize,
+        files: *const u8,
+        files_length: usize,
+        out: &mut [u8; LISTING],
+    ) -> u64;
+
+    fn shaydhoqel_listing(input: *const u8, input_length: usize, out: &mut [u8; LISTING]) -> u64;
+
+    fn shaydhoqel_extract(
+        date: u64,
+        dollars: bool,
+        entities: *const u64,
+        entities_length: usize,
+        entity: u64,
+        file: *const u8,
+        file_length: usize,
+        out: *mut u8,
+        out_length: usize,
+    ) -> Spoken;
+
+    fn shaydhoqel_build(
+        date: u64,
+        dollars: bool,
+        entities: *const u64,
+        entities_length: usize,
+        header: *const u8,
+        header_length: usize,
+        tray: *const u8,
+        tray_length: usize,
+        out: *mut u8,
+        out_length: usize,
+    ) -> Spoken;
+
+    fn shaydhoqel_strip(
+        date: u64,
+        dollars: bool,
+        entities: *const u64,
+        entities_length: usize,
+        file: *const u8,
+        file_length: usize,
+        out: *mut u8,
+        out_length: usize,
+    ) -> Spoken;
+}
+
+/// A call that begins with an opening: plain arguments, then slices as pointer and length, then what is written.
+macro_rules! opened {
+    ($job:ident, $opening:expr, [$($plain:expr),*], [$($slice:expr),*], $($out:expr),+) => {
+        $job(
+            $opening.date,
+            dollars($opening.currency),
+            $opening.entities.as_ptr(),
+            $opening.entities.len(),
+            $($plain,)*
+            $($slice.as_ptr(), $slice.len(),)*
+            $($out),+
+        )
+    };
+}
+
+fn dollars(currency: Currency) -> bool {
+    currency == Currency::Dollars
+}
+
+pub fn read(date: u64, currency: Currency, roster: &Roster, file: &[u8]) -> Spoken {
+    // SAFETY: each pointer comes with its slice's length or points to a whole array, all borrowed for the time of the call, which is as long
+    // as the library uses them; it only reads, and a bool is a mark of 0 or 1.
+    unsafe { shaydhoqel_read(date, dollars(currency), roster, file.as_ptr(), file.len()) }
+}
+
+/// Answer `i` stands in `answers[2 * i]` and the element behind it, where there is room for both.
+pub fn day(
+    opening: &Opening,
+    ends: &[u64],
+    files: &[u8],
+    answers: &mut [u64],
+    positions: &mut [i64; ENTITIES],
+    sent: &mut [u64; ENTITIES],
+    received: &mut [u64; ENTITIES],
+) -> Spoken {
+    let (lent, length) = (answers.as_mut_ptr(), answers.len());
+    // SAFETY: as for reading; what is written is borrowed mutably, so that it overlaps nothing.
+    unsafe {
+        opened!(
+            shaydhoqel_day,
+            opening,
+            [],
+            [ends, files],
+            lent,
+            length,
+            positions,
+            sent,
+            received
+        )
+    }
+}
+
+/// The number of bytes at the front of the buffer.
+pub fn day_listing(opening: &Opening, ends: &[u64], files: &[u8], out: &mut [u8; LISTING]) -> u64 {
+    // SAFETY: as for a day.
+    unsafe { opened!(shaydhoqel_day_listing, opening, [], [ends, files], out) }
+}
+
+/// The number of bytes at the front of the buffer.
+pub fn listing(input: &[u8], out: &mut [u8; LISTING]) -> u64 {
+    // SAFETY: as for a day.
+    unsafe { shaydhoqel_listing(input.as_ptr(), input.len(), out) }
+}
+
+pub fn extract(opening: &Opening, entity: u64, file: &[u8], out: &mut [u8]) -> Spoken {
+    let (lent, length) = (out.as_mut_ptr(), out.len());
+    // SAFETY: as for a day.
+    unsafe { opened!(shaydhoqel_extract, opening, [entity], [file], lent, length) }
+}
+
+pub fn build(opening: &Opening, header: &[u8], tray: &[u8], out: &mut [u8]) -> Spoken {
+    let (lent, length) = (out.as_mut_ptr(), out.len());
+    // SAFETY: as for a day.
+    unsafe { opened!(shaydhoqel_build, opening, [], [header, tray], lent, length) }
+}
+
+pub fn strip(opening: &Opening, file: &[u8], out: &mut [u8]) -> Spoken {
+    let (lent, length) = (out.as_mut_ptr(), out.len());
+    // SAFETY: as for a day.
+    unsafe { opened!(shaydhoqel_strip, opening, [], [file], lent, length) }
+}

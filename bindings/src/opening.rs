@@ -1,0 +1,121 @@
+//! A session's opening, and the jobs done in it.
+
+use crate::calls::{self, Spoken};
+use crate::{listed, Refusal, ENTITIES};
+
+#[derive(Clone, Copy, Debug, PartialEq, Eq)]
+pub enum Currency {
+    Pesos,
+    Dollars,
+}
+
+/// What a session is opened with.
+///
+/// A bad date is refused by 75, then a number not 1 to 499 by 208. A refused opening returns the session of 000101, pesos, nobody on
+/// the roster: the jobs below are done in that, where every file is refused. [`Opening::answer`] tells the two apart.
+#[derive(Clone, Copy, Debug, PartialEq, Eq)]
+pub struct Opening<'a> {
+    /// AAMMDD, as the number those digits spell.
+    pub date: u64,
+    pub currency: Currency,
+    /// Entity numbers of the roster, in any order, repeats allowed.
+    pub entities: &'a [u64],
+}
+
+/// What the session holds for an entity.
+#[derive(Clone, Copy, Debug, Default, PartialEq, Eq)]
+pub struct Cell {
+    /// In cents; negative where the entity pays.
+    pub position: i64,
+    /// Individual records sent and received.
+    pub sent: u64,
+    pub received: u64,
+}
+
+/// All that a day leaves behind.
+#[derive(Clone, Debug, PartialEq, Eq)]
+pub struct Day {
+    /// As [`Opening::answer`].
+    pub opening: Result<(), Refusal>,
+    /// One for each file.
+    pub answers: Vec<Result<(), Refusal>>,
+    /// By entity number.
+    pub cells: [Cell; ENTITIES],
+}
+
+impl Opening<'_> {
+    /// The opening's own answer: 75, then 208, at 0.
+    pub fn answer(&self) -> Result<(), Refusal> {
+        self.day(&[]).opening
+    }
+
+    /// Presents the files in turn. A refused one changes no cell and uses up no identifier.
+    pub fn day(&self, files: &[&[u8]]) -> Day {
+        let mut said = vec![0; 2 * files.len()];
+        let mut positions = [0; ENTITIES];
+        let (mut sent, mut received) = ([0; ENTITIES], [0; ENTITIES]);
+        let opened = calls::day(
+            self,
+            &ends(files),
+            &files.concat(),
+            &mut said,
+            &mut positions,
+            &mut sent,
+            &mut received,
+        );
+        let answer = |pair: &[u64]| {
+            let (number, place) = (pair[0], pair[1]);
+            Spoken { number, place }.answer()
+        };
+        Day {
+            opening: opened.answer(),
+            answers: said.chunks_exact(2).map(answer).collect(),
+            cells: std::array::from_fn(|entity| Cell {
+                position: positions[entity],
+                sent: sent[entity],
+                received: received[entity],
+            }),
+        }
+    }
+
+    /// The listing of the session at the end of such a day, whatever the answers were.
+    pub fn day_listing(&self, files: &[&[u8]]) -> Vec<u8> {
+        listed(|out| calls::day_listing(self, &ends(files), &files.concat(), out))
+    }
+
+    /// Writes what the file holds for one entity at the front of the buffer, and counts its bytes; the rest of the buffer stays.
+    ///
+    /// Refused by 208, then as the file's reading is, then by 206, with the buffer as it was. A buffer of the file's length is always
+    /// enough.
+    pub fn extract(&self, entity: u64, file: &[u8], out: &mut [u8]) -> Result<usize, Refusal> {
+        calls::extract(self, entity, file, out).counted()
+    }
+
+    /// Writes the file built from a header body of 94 bytes and a tray at the front of the buffer, and counts its bytes; the rest of the
+    /// buffer stays.
+    ///
+    /// Refused by 207 (at 0 for a wrong length of either, else at the first bad record of the tray), then by 201, then by 206, with the
+    /// buffer as it was; then as the reading of the file built is, with spaces in all the bytes that the file would have taken.
+    /// [`FILE_LIMIT`](crate::FILE_LIMIT) bytes are always enough.
+    pub fn build(&self, header: &[u8], tray: &[u8], out: &mut [u8]) -> Result<usize, Refusal> {
+        calls::build(self, header, tray, out).counted()
+    }
+
+    /// Writes the tray of a file at the front of the buffer, and counts its bytes; the rest of the buffer stays.
+    ///
+    /// Refused as the file's reading is, then by 206, with the buffer as it was. [`TRAY_ROOM`](crate::TRAY_ROOM) bytes are always enough.
+    pub fn strip(&self, file: &[u8], out: &mut [u8]) -> Result<usize, Refusal> {
+        calls::strip(self, file, out).counted()
+    }
+}
+
+/// Where each file ends, in bytes from the first file's beginning.
+fn ends(files: &[&[u8]]) -> Vec<u64> {
+    let lengths = files.iter().map(|file| file.len() as u64);
+    lengths
+        .scan(0, |end, length| {
+            *end += length;
+            Some(*end)
+        })
+        .collect()
+}

@@ -1,0 +1,120 @@
+//! Every job on case L.
+
+mod common;
+
+use common::{junk, lent, record, refused, tray_of, L, OPENING};
+use desk::{Cell, Currency, Opening, Refusal, ENTITIES, FILE_LIMIT, RECORD, TRAY_ROOM};
+
+const LISTING: &str = "ENTITY SENT RECEIVED NET
+401 2 1 60000
+402 0 1 -12500
+403 1 1 -47500
+SUM 3 3 0
+";
+
+#[test]
+fn read() {
+    let answer = |currency, entities: &[usize]| {
+        let roster = std::array::from_fn(|entity| entities.contains(&entity));
+        desk::read(250_630, currency, &roster, L)
+    };
+    assert_eq!(answer(Currency::Pesos, &[401, 402, 403]), Ok(10));
+    let currency = refused(Refusal::CURRENCY, 0);
+    assert_eq!(answer(Currency::Dollars, &[401, 402, 403]), currency);
+    let first_to_403 = refused(Refusal::ROSTER, 3);
+    assert_eq!(answer(Currency::Pesos, &[401, 402]), first_to_403);
+}
+
+#[test]
+fn day_with_the_file_twice() {
+    let day = OPENING.day(&[L, L]);
+    assert_eq!(day.opening, Ok(()));
+    assert_eq!(day.answers, [Ok(()), refused(Refusal::IDENTIFIER, 0)]);
+    let mut expected = [Cell::default(); ENTITIES];
+    for (entity, position, sent, received) in [
+        (401, 60_000, 2, 1),
+        (402, -12_500, 0, 1),
+        (403, -47_500, 1, 1),
+    ] {
+        expected[entity] = Cell {
+            position,
+            sent,
+            received,
+        };
+    }
+    assert_eq!(day.cells, expected);
+}
+
+#[test]
+fn files_of_a_day_are_kept_apart() {
+    let mut other = L.to_vec();
+    other[33] = b'B';
+    let day = OPENING.day(&[b"", L, &L[1..], &other]);
+    let wrong = refused(Refusal::LENGTH, 0);
+    assert_eq!(day.answers, [wrong, Ok(()), wrong, Ok(())]);
+    assert_eq!(day.cells[402].position, -25_000);
+}
+
+#[test]
+fn listings() {
+    let listed = OPENING.day_listing(&[L, L]);
+    assert_eq!(listed, LISTING.as_bytes());
+    assert_eq!(desk::listing(L), LISTING.as_bytes());
+    let zero_amount = include_bytes!("../../samples/zero-amount.txt");
+    assert_eq!(desk::listing(zero_amount), b"REFUSED 19 AT 2\n");
+}
+
+#[test]
+fn extract_for_402() {
+    let header = format!(
+        "{:<40}{:<23}{:<31}",
+        "101 040200000 9999000102506301230A094101", "BANCO 401", "CAMARA"
+    );
+    let control = format!(
+        "{:<79}040100010000001",
+        "820000000100040200010000000125000000000000003050001091"
+    );
+    let file_control = format!(
+        "{:<94}",
+        "9000001000001000000010004020001000000012500000000000000"
+    );
+    let expected = [
+        header.as_bytes(),
+        record(L, 1),
+        record(L, 2),
+        control.as_bytes(),
+        file_control.as_bytes(),
+        &junk(L.len() - 5 * RECORD),
+    ];
+    let (answer, buffer) = lent(L.len(), |out| OPENING.extract(402, L, out));
+    assert_eq!(answer, Ok(5 * RECORD));
+    assert_eq!(buffer, expected.concat());
+}
+
+#[test]
+fn strip_and_build_back() {
+    let tray = tray_of(L);
+    let (answer, buffer) = lent(TRAY_ROOM, |out| OPENING.strip(L, out));
+    assert_eq!(answer, Ok(tray.len()));
+    assert!(buffer == [tray.as_slice(), &junk(TRAY_ROOM - tray.len())].concat());
+    let (answer, buffer) = lent(FILE_LIMIT, |out| OPENING.build(record(L, 0), &tray, out));
+    assert_eq!(answer, Ok(L.len()));
+    assert!(buffer == [L, &junk(FILE_LIMIT - L.len())].concat());
+}
+
+#[test]
+fn build_from_an_empty_tray() {
+    let (answer, buffer) = lent(2 * RECORD, |out| OPENING.build(record(L, 0), &[], out));
+    assert_eq!(answer, Ok(2 * RECORD));
+    assert_eq!(OPENING.day(&[&buffer]).answers, [Ok(())]);
+}
+
+#[test]
+fn dollars() {
+    let opening = Opening {
+        currency: Currency::Dollars,
+        ..OPENING
+    };
+    assert_eq!(opening.answer(), Ok(()));
+    assert_eq!(opening.day(&[L]).answers, [refused(Refusal::CURRENCY, 0)]);
+}

@@ -1,0 +1,19 @@
+use borrow.Author.Needs.{needs}
+use Rattle.files.proofs.Parts.{taken, front}
+use Rattle.counter.proofs.jobs.build.Statement.{statement}
+use Rattle.counter.proofs.jobs.build.Tie as tie
+
+inside : tie.Need-array-share-prefix-header
+inside c = taken _ (c .before .taken .given .1) (c .before .before .before .before .take .ensures)
+
+slice-aggregate-build-from : tie.Need-slice-aggregate-build-from
+slice-aggregate-build-from c = front _ _ (inside (c .before))
+
+pub build-spec : {M : Type 1} → statement M
+build-spec =
+    tie.close
+    (tie.spec
+    (λ c. search needs) (λ c κs. search needs) (λ c. search needs) (λ c. search needs) (λ c. search needs)
+    inside
+    slice-aggregate-build-from
+    (λ c κs. search needs) (λ c. search needs))

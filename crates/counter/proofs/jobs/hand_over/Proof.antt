@@ -1,0 +1,16 @@
+use borrow.Author.Needs.{needs}
+use Rattle.files.proofs.Parts.{front}
+use Rattle.counter.proofs.Written.{written}
+use Rattle.counter.proofs.jobs.hand_over.Statement.{statement}
+use Rattle.counter.proofs.jobs.hand_over.Tie as tie
+
+slice-aggregate-put : tie.Need-slice-aggregate-put
+slice-aggregate-put c = front _ _ (written _ (c .before .before .output .given .1) (c .before .before .before .before .before .pre))
+
+pub hand-over-spec : {M : Type 1} → statement M
+hand-over-spec =
+    tie.close
+    (tie.spec
+    (λ c. search needs)
+    slice-aggregate-put
+    (λ c κs. search needs) (λ c. search needs) (λ c. search needs) (λ c κs. search needs) (λ c. search needs))

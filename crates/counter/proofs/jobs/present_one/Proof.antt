@@ -1,0 +1,19 @@
+use borrow.Author.Needs.{needs}
+use Rattle.files.proofs.Parts.{taken, front}
+use Rattle.counter.proofs.jobs.present_one.Statement.{statement}
+use Rattle.counter.proofs.jobs.present_one.Tie as tie
+
+inside : tie.Need-array-share-prefix-input
+inside c = taken _ (c .before .taken .given .1) (c .before .before .before .before .take .ensures)
+
+slice-aggregate-present : tie.Need-slice-aggregate-present
+slice-aggregate-present c = front _ _ (inside (c .before))
+
+pub present-one-spec : {M : Type 1} → statement M
+present-one-spec =
+    tie.close
+    (tie.spec
+    (λ c κs. search needs) (λ c. search needs) (λ c κs. search needs) (λ c. search needs) (λ c. search needs) (λ c. search needs)
+    inside
+    slice-aggregate-present
+    (λ c κs. search needs) (λ c κs. search needs) (λ c. search needs))

@@ -1,0 +1,19 @@
+use borrow.Author.Needs.{needs}
+use Rattle.files.proofs.Parts.{taken, front}
+use Rattle.counter.proofs.jobs.read.Statement.{statement}
+use Rattle.counter.proofs.jobs.read.Tie as tie
+
+inside : tie.Need-array-share-prefix-input
+inside c = taken _ (c .before .taken .given .1) (c .before .before .before .before .take .ensures)
+
+slice-aggregate-read : tie.Need-slice-aggregate-read
+slice-aggregate-read c = front _ _ (inside (c .before))
+
+pub read-spec : {M : Type 1} → statement M
+read-spec =
+    tie.close
+    (tie.spec
+    (λ c κs. search needs) (λ c. search needs) (λ c κs. search needs) (λ c. search needs) (λ c. search needs) (λ c. search needs)
+    inside
+    slice-aggregate-read
+    (λ c κs. search needs) (λ c κs. search needs) (λ c. search needs))

@@ -1,0 +1,29 @@
+use borrow.Author.Needs.{needs}
+use Rattle.desk.proofs.Stripping.{strip-inside}
+use Rattle.files.proofs.Parts.{taken, front}
+use Rattle.counter.proofs.Written.{fits}
+use Rattle.counter.proofs.jobs.strip.Statement.{statement}
+use Rattle.counter.proofs.jobs.strip.Tie as tie
+
+inside : tie.Need-array-share-prefix-input
+inside c = let m = c .before .before in taken _ (m .taken .given .1) (m .before .before .before .take .ensures)
+
+slice-aggregate-strip : tie.Need-slice-aggregate-strip
+slice-aggregate-strip c = front _ _ (inside (c .before))
+
+hand-over-requires : tie.Need-hand-over-requires
+hand-over-requires c κs =
+    let m = c .before .before .before .before .before .before .before in
+    let o = c .before .before .strip in
+    fits (o .result) (o .last .1 .1 .0) (λ n p. strip-inside (m .before .before .before .before .before .before .args .session) _ _ _ _ (o .ensures) p)
+
+pub strip-spec : {M : Type 1} → statement M
+strip-spec =
+    tie.close
+    (tie.spec
+    (λ c κs. search needs) (λ c. search needs) (λ c κs. search needs) (λ c. search needs) (λ c. search needs) (λ c. search needs) (λ c κs. search needs)
+    inside
+    slice-aggregate-strip
+    (λ c. search needs) (λ c κs. search needs) (λ c. search needs)
+    hand-over-requires
+    (λ c. search needs))

@@ -1,0 +1,26 @@
+// The buffers that files are held in. Their lengths are said here, where they are made.
+ghost use mathlib.Core.Path.{_≡_};
+ghost use lib.ListN.{length};
+use state::State;
+use tray::Tray;
+
+pub struct Held;
+
+impl Held {
+    // One record more than a tray that a file can be built from; longer than any file.
+    pub const INPUT: usize = (State::MOST + 1) * Tray::RECORD;
+    // The longest tray that a file can be stripped to; longer than any file.
+    pub const OUTPUT: usize = State::MOST * Tray::RECORD;
+}
+
+pub fn input() -> [u8; Held::INPUT]
+    ensures { λ r. ⌜ 960096 ≡ length r ⌝ }
+{
+    [0; Held::INPUT]
+}
+
+pub fn output() -> [u8; Held::OUTPUT]
+    ensures { λ r. ⌜ 960000 ≡ length r ⌝ }
+{
+    [0; Held::OUTPUT]
+}

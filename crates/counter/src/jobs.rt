@@ -1,0 +1,205 @@
+// The five jobs: files are read, the desk is asked, its answer is printed, and bytes go out where it accepts.
+ghost use Prim.Native.Nat.{_≤_};
+ghost use lib.ListN.{length};
+ghost use Rattle.desk.specs.Calls.{Reachable};
+ghost use Rattle.counter.specs.Inside.{Inside};
+use crate::call;
+use crate::call::Job;
+use crate::call::Word;
+use crate::held;
+use crate::held::Held;
+use crate::trays;
+use crate::trays::Looked;
+use desk::Reply;
+use desk::Session;
+use files::handing;
+use files::taking;
+use files::taking::Taken;
+use libc::STDOUT_FILENO;
+use listing::answers;
+use listing::lines::Listing;
+use paper::answer::Answer;
+use paper::answer::Output;
+
+// An answer that nobody can read is no answer.
+fn printed(whole: bool) {
+    if !whole {
+        os::fail(b"standard output");
+    }
+}
+
+pub fn say_opening(answer: Answer) {
+    let mut line = [0u8; Listing::ROOM];
+    let n = answers::opening(answer, &mut line);
+    printed(io::write_all(STDOUT_FILENO, &line[..n]));
+}
+
+fn say(answer: Answer) {
+    let mut line = [0u8; Listing::ROOM];
+    let n = answers::answer(answer, &mut line);
+    printed(io::write_all(STDOUT_FILENO, &line[..n]));
+}
+
+fn say_output(output: Output) {
+    let mut line = [0u8; Listing::ROOM];
+    let n = answers::output(output, &mut line);
+    printed(io::write_all(STDOUT_FILENO, &line[..n]));
+}
+
+// The listing of the session, whatever its last answer was.
+fn list(session: Session)
+    requires { ⌜ Reachable session ⌝ }
+{
+    let mut lines = [0u8; Listing::ROOM];
+    let reply = Reply {
+        answer: Answer::Accepted,
+        session,
+    };
+    let n = listing::print(reply, &mut lines);
+    printed(io::write_all(STDOUT_FILENO, &lines[..n]));
+}
+
+// Acceptance is said once the bytes are where they belong.
+fn hand_over(word: usize, output: Output, out: &[u8])
+    requires { ⌜ Inside output (now out) ⌝ }
+{
+    if let Output::Accepted(n) = output {
+        if !handing::put(word, &out[..n]) {
+            return;
+        }
+    }
+    say_output(output);
+}
+
+fn read(session: Session) {
+    let mut input = held::input();
+    let taken = taking::take(Word::FIRST, &mut input);
+    let Taken::Bytes(n) = taken else {
+        return;
+    };
+    say(session.read(&input[..n]));
+}
+
+// The session after a file was presented; not ready where the file could not be read.
+struct Turn {
+    ready: bool,
+    session: Session,
+}
+
+fn present_one(session: Session, word: usize) -> Turn
+    requires { ⌜ Reachable session ⌝ }
+    ensures { λ r. ⌜ Reachable (r .session) ⌝ }
+{
+    let mut input = held::input();
+    let taken = taking::take(word, &mut input);
+    let Taken::Bytes(n) = taken else {
+        return Turn {
+            ready: false,
+            session,
+        };
+    };
+    let reply = session.present(&input[..n]);
+    let answer = reply.answer;
+    say(answer);
+    let after = reply.session;
+    Turn {
+        ready: true,
+        session: after,
+    }
+}
+
+// A file that cannot be read ends the day without a listing: one that lacks a file would look whole.
+fn present(session: Session)
+    requires { ⌜ Reachable session ⌝ }
+{
+    let count = os::arg_count();
+    let mut after = session;
+    let mut word = Word::FIRST;
+    while word < count {
+        let turn = present_one(after, word);
+        if !turn.ready {
+            return;
+        }
+        after = turn.session;
+        word += 1;
+    }
+    list(after);
+}
+
+fn extract(session: Session) {
+    let mut input = held::input();
+    let taken = taking::take(Word::SECOND, &mut input);
+    let Taken::Bytes(n) = taken else {
+        return;
+    };
+    let mut out = held::output();
+    let output = session.extract(call::entity(), &input[..n], &mut out);
+    hand_over(Word::THIRD, output, &out);
+}
+
+fn strip(session: Session) {
+    let mut input = held::input();
+    let taken = taking::take(Word::FIRST, &mut input);
+    let Taken::Bytes(n) = taken else {
+        return;
+    };
+    let mut out = held::output();
+    let output = session.strip(&input[..n], &mut out);
+    hand_over(Word::SECOND, output, &out);
+}
+
+fn build(session: Session) {
+    // one byte more than a header body shows that there was more
+    let mut header = [0u8; Session::RECORD + 1];
+    let taken = taking::take(Word::FIRST, &mut header);
+    let Taken::Bytes(n) = taken else {
+        return;
+    };
+    build_from(session, &header[..n]);
+}
+
+fn build_from(session: Session, header: &[u8]) {
+    let mut path = io::buffer();
+    let length = taking::name(Word::SECOND, &mut path);
+    if length == 0 {
+        return;
+    }
+    let fd = taking::open(&path[..length]);
+    if fd < 0 {
+        return;
+    }
+    let mut input = held::input();
+    let taken = taking::fill(fd, &path[..length], &mut input);
+    let Taken::Bytes(n) = taken else {
+        return;
+    };
+    if n == Held::INPUT {
+        say_long(fd, &path[..length], header, &input);
+        return;
+    }
+    let mut out = held::output();
+    let output = session.build(header, &input[..n], &mut out);
+    hand_over(Word::THIRD, output, &out);
+}
+
+fn say_long(fd: i32, path: &[u8], header: &[u8], input: &[u8])
+    requires { ⌜ length (now input) ≤ 960096 ⌝ }
+{
+    let looked = trays::look(fd, path, header, input);
+    let Looked::Found(answer) = looked else {
+        return;
+    };
+    say(answer);
+}
+
+pub fn run(job: Job, session: Session)
+    requires { ⌜ Reachable session ⌝ }
+{
+    match job {
+        Job::Read => read(session),
+        Job::Present => present(session),
+        Job::Extract => extract(session),
+        Job::Build => build(session),
+        Job::Strip => strip(session),
+    }
+}

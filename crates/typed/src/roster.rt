@@ -1,0 +1,112 @@
+// A roster as text: entity numbers separated by blanks or line ends. A text of any length is read piece by piece.
+ghost use mathlib.Core.Path.{_≡_};
+ghost use lib.ListN.{length};
+ghost use Rattle.paper.specs.Buffers.{over};
+ghost use Rattle.typed.specs.Rosters.{separator, begun, noted, closed, withIf, readOn, entitiesIn};
+use crate::words;
+use desk::Session;
+
+// What is known after part of the text.
+pub struct Roster {
+    // the numbers listed; at 0, whether one was listed that is no entity's
+    listed: [bool; Session::ROSTER],
+    // whether a word is being read
+    word: bool,
+    // its number so far
+    number: u64,
+}
+
+// Blanks and line ends; tabs count as blanks.
+fn separator(b: u8) -> bool
+    ensures { λ r. ⌜ r ≡ separator b ⌝ }
+{
+    match b {
+        b'\t' | b'\n' | b'\r' | b' ' => true,
+        _ => false,
+    }
+}
+
+fn noted(listed: [bool; Session::ROSTER], number: u64) -> [bool; Session::ROSTER]
+    ensures { λ r. ⌜ r ≡ noted listed number ⌝ }
+{
+    let mut marks = listed;
+    let e = number as usize;
+    if e < Session::ROSTER {
+        marks[e] = true;
+    } else {
+        marks[0] = true;
+    }
+    marks
+}
+
+impl Roster {
+    pub fn begun() -> Roster
+        ensures { λ r. ⌜ r ≡ begun ⌝ }
+    {
+        Roster {
+            listed: [false; Session::ROSTER],
+            word: false,
+            number: 0,
+        }
+    }
+
+    // A word ends with the text too.
+    pub fn closed(self) -> Roster
+        ensures { λ r. ⌜ r ≡ closed self ⌝ }
+    {
+        if !self.word {
+            return self;
+        }
+        let listed = self.listed;
+        Roster {
+            listed: noted(listed, self.number),
+            word: false,
+            number: 0,
+        }
+    }
+
+    fn with(self, b: u8) -> Roster
+        ensures { λ r. ⌜ r ≡ withIf (separator b) self b ⌝ }
+    {
+        if separator(b) {
+            return self.closed();
+        }
+        let listed = self.listed;
+        Roster {
+            listed,
+            word: true,
+            number: words::grown(self.number, b),
+        }
+    }
+
+    // The next piece of the text.
+    pub fn read(self, piece: &[u8]) -> Roster
+        ensures { λ r. ⌜ r ≡ readOn self (now (piece .entry)) ⌝ }
+    {
+        let mut roster = self;
+        let mut i: usize = 0;
+        while i < piece.len() {
+            roster = roster.with(piece[i]);
+            i += 1;
+        }
+        roster
+    }
+
+    // The numbers listed, ascending, and how many.
+    pub fn entities(self, out: &mut [u64; Session::ROSTER]) -> usize
+        ensures { λ r. ⌜ (r ≡ length (entitiesIn self)) × (now (out .exit) ≡ over (entitiesIn self) (now (out .entry))) ⌝ }
+    {
+        // as a slice, since its length is then known
+        let places = &mut out[..];
+        let mut count: usize = 0;
+        let mut e: usize = 0;
+        while e < Session::ROSTER {
+            if self.listed[e] {
+                places[count] = e as u64;
+                count += 1;
+            }
+            e += 1;
+        }
+        count
+    }
+}

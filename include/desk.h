@@ -1,0 +1,143 @@
+/* The clearing desk of document 01, for programs in C and C++: the functions of libexport.a, which are proved Rattle code.
+   `bash bindings/library` writes the archive; besides it a program, of 64 bits, needs only its C library.
+
+   What is lent
+     A slice is a pointer and a length, which counts elements. Where the length is 0 the pointer may be any, NULL too: nothing
+     is read or written through it. Otherwise it points to that many elements of its type, set and aligned; those behind a
+     pointer that is not const may be written. An array with its size in brackets is never NULL and has that many elements.
+     What a call may write overlaps nothing else that the call is lent.
+     Nothing is kept after the call, allocated, or shared between calls: threads may call at once. A call takes some 200 KB of
+     stack.
+
+   What is answered
+     Every function answers for any bytes of any length. A refusal is a number and the place of the record it stands at, from 0;
+     the place is 0 where the refusal is tied to no record.
+
+   Sessions
+     A session is opened with a date (AAMMDD, as the number those digits spell), a currency (dollars or else pesos) and a list of
+     entity numbers, in any order, repeats allowed, possibly empty. A bad date is 75; then a number not 1 to 499 is 208. A refused
+     opening returns the session of 000101, pesos, nobody on the roster, and every file is refused there.
+     Only shaydhoqel_day says the opening's answer; it may be called for that with no files. */
+#ifndef SHAYDHOQEL_DESK_H
+#define SHAYDHOQEL_DESK_H
+
+#include <stdbool.h>
+#include <stddef.h>
+#include <stdint.h>
+
+#ifdef __cplusplus
+extern "C" {
+#endif
+
+/* Bytes of a record, and of the longest file: a buffer of so many has room for every file built. */
+#define SHAYDHOQEL_RECORD 94
+#define SHAYDHOQEL_FILE_LIMIT 940000
+
+/* Bytes of a tray's record, two for its mark; and of a buffer with room for the tray of every file. */
+#define SHAYDHOQEL_TRAY_RECORD 96
+#define SHAYDHOQEL_TRAY_ROOM 960000
+
+/* Entity numbers 0 to 499; nobody has number 0. */
+#define SHAYDHOQEL_ENTITIES 500
+
+/* Bytes of the longest listing. */
+#define SHAYDHOQEL_LISTING 33525
+
+/* Numbers on the counter, as document 01 lists them; acceptance is 0. */
+enum shaydhoqel_number {
+    SHAYDHOQEL_ACCEPTED = 0,
+    /* file shorter than 188 or longer than 940,000 bytes, or no multiple of 94 */
+    SHAYDHOQEL_REFUSED_LENGTH = 201,
+    /* character, order, fixed field, entity or control wrong */
+    SHAYDHOQEL_REFUSED_FORMAT = 17,
+    /* amount not ten digits, or zero */
+    SHAYDHOQEL_REFUSED_AMOUNT = 19,
+    /* additional record missing, surplus or wrong */
+    SHAYDHOQEL_REFUSED_ADDITIONAL = 25,
+    /* counter out of sequence */
+    SHAYDHOQEL_REFUSED_COUNTER = 27,
+    /* date wrong */
+    SHAYDHOQEL_REFUSED_DATE = 75,
+    /* individual record, field 4: the reserved zero */
+    SHAYDHOQEL_REFUSED_RESERVED = 77,
+    /* individual record, field 5: the account */
+    SHAYDHOQEL_REFUSED_ACCOUNT = 78,
+    /* individual record, field 7: the reference of the debit */
+    SHAYDHOQEL_REFUSED_REFERENCE = 79,
+    /* individual record, field 9: the information on the transaction */
+    SHAYDHOQEL_REFUSED_INFORMATION = 87,
+    /* entity of the other currency */
+    SHAYDHOQEL_REFUSED_CURRENCY = 203,
+    /* entity not on the roster */
+    SHAYDHOQEL_REFUSED_ROSTER = 204,
+    /* output buffer shorter than the output */
+    SHAYDHOQEL_REFUSED_ROOM = 206,
+    /* tray or header body malformed */
+    SHAYDHOQEL_REFUSED_TRAY = 207,
+    /* entity number not 1 to 499, or, when extracting, not on the roster */
+    SHAYDHOQEL_REFUSED_ENTITY = 208,
+    /* identifier already accepted from this origin */
+    SHAYDHOQEL_REFUSED_IDENTIFIER = 209
+};
+
+/* An answer. Accepted: number is 0, and place is the count that the function names, or 0 where it names none.
+   Refused: number is one of the above, and place is where. */
+struct shaydhoqel_spoken {
+    uint64_t number;
+    uint64_t place;
+};
+
+/* Reads a file in a session of this date, currency and roster, and counts its records. roster[e] says whether entity e is on the
+   roster: each mark is 0 or 1 and no other byte. No session is opened, so the date may be any number; one that is no date is that of
+   no file. */
+struct shaydhoqel_spoken shaydhoqel_read(uint64_t date, bool dollars, const bool roster[SHAYDHOQEL_ENTITIES],
+                                         const uint8_t *file, size_t file_length);
+
+/* A day: opens a session, presents the files to it in turn, and answers for the opening.
+   files: all files, one behind the other. ends: where each ends in it, so that file i is the bytes from ends[i - 1], or 0 for the
+   first, up to ends[i], as far as there are any; one that ends before it begins is empty, and refused by 201.
+   answers: the answer on file i is written to answers[2 i] (number, 0 if accepted) and answers[2 i + 1] (place), where there is
+   room for both; the rest stays, so 2 * ends_length elements take all.
+   positions, sent, received: all 500 elements of each are written, by entity number: the position in cents, and the individual
+   records sent and received, at the end of the day. A refused file changes none of them, and uses up no identifier.
+   After a refused opening the files are presented all the same, each is refused, and all figures are 0. */
+struct shaydhoqel_spoken shaydhoqel_day(uint64_t date, bool dollars, const uint64_t *entities, size_t entities_length,
+                                        const uint64_t *ends, size_t ends_length, const uint8_t *files, size_t files_length,
+                                        uint64_t *answers, size_t answers_length, int64_t positions[SHAYDHOQEL_ENTITIES],
+                                        uint64_t sent[SHAYDHOQEL_ENTITIES], uint64_t received[SHAYDHOQEL_ENTITIES]);
+
+/* The listing of the session at the end of such a day, whatever the answers were. It stands at the front of out, whose rest stays;
+   returned is its number of bytes. No byte 0 ends it. */
+uint64_t shaydhoqel_day_listing(uint64_t date, bool dollars, const uint64_t *entities, size_t entities_length, const uint64_t *ends,
+                                size_t ends_length, const uint8_t *files, size_t files_length, uint8_t out[SHAYDHOQEL_LISTING]);
+
+/* What the program `positions` prints for this input: the listing of one file, read by its own date and currency with 1 to 499 on
+   the roster, or its refusal, as REFUSED 19 AT 2; an input of more than 65,424 bytes is REFUSED 201 AT 0. It stands at the front of
+   out, whose rest stays; returned is its number of bytes. No byte 0 ends it. */
+uint64_t shaydhoqel_listing(const uint8_t *input, size_t input_length, uint8_t out[SHAYDHOQEL_LISTING]);
+
+/* Opens a session, and extracts from a file what is addressed to one entity: counts the bytes written at the front of out. Refused
+   by 208, then as the file's reading is, then by 206, with nothing written; the rest of out always stays. A buffer of the file's
+   length is always enough. */
+struct shaydhoqel_spoken shaydhoqel_extract(uint64_t date, bool dollars, const uint64_t *entities, size_t entities_length,
+                                            uint64_t entity, const uint8_t *file, size_t file_length, uint8_t *out,
+                                            size_t out_length);
+
+/* Opens a session, and builds a file from a header body of 94 bytes and a tray: counts the bytes written at the front of out. Refused by
+   207 (at 0 for a wrong length of either, else at the first bad record of the tray), then by 201, then by 206, each with nothing written;
+   then as the reading of the file built is, with spaces in all the bytes that the file would have taken. The rest of out always stays.
+   SHAYDHOQEL_FILE_LIMIT bytes are always enough. */
+struct shaydhoqel_spoken shaydhoqel_build(uint64_t date, bool dollars, const uint64_t *entities, size_t entities_length,
+                                          const uint8_t *header, size_t header_length, const uint8_t *tray, size_t tray_length,
+                                          uint8_t *out, size_t out_length);
+
+/* Opens a session, and strips a file to its tray: counts the bytes written at the front of out. Refused as the file's reading is, then
+   by 206, with nothing written; the rest of out always stays. SHAYDHOQEL_TRAY_ROOM bytes are always enough. */
+struct shaydhoqel_spoken shaydhoqel_strip(uint64_t date, bool dollars, const uint64_t *entities, size_t entities_length,
+                                          const uint8_t *file, size_t file_length, uint8_t *out, size_t out_length);
+
+#ifdef __cplusplus
+}
+#endif
+
+#endif
