@@ -43,6 +43,19 @@ extern "C" {
 /* Bytes of the longest listing. */
 #define SHAYDHOQEL_LISTING 33525
 
+/* Figures of the cells, in one buffer: figure f of entity e stands at index f * SHAYDHOQEL_ENTITIES + e. A later library may know more
+   figures. They stand behind these, so that no index moves, and a caller that lends room for these sees no other. */
+enum shaydhoqel_figure {
+    /* the position in cents, negative where the entity pays */
+    SHAYDHOQEL_POSITION = 0,
+    /* individual records sent */
+    SHAYDHOQEL_SENT = 1,
+    /* individual records received */
+    SHAYDHOQEL_RECEIVED = 2,
+    /* how many figures there are */
+    SHAYDHOQEL_FIGURES = 3
+};
+
 /* Numbers on the counter, as document 01 lists them; acceptance is 0. */
 enum shaydhoqel_number {
     SHAYDHOQEL_ACCEPTED = 0,
@@ -98,13 +111,13 @@ struct shaydhoqel_spoken shaydhoqel_read(uint64_t date, bool dollars, const bool
    first, up to ends[i], as far as there are any; one that ends before it begins is empty, and refused by 201.
    answers: the answer on file i is written to answers[2 i] (number, 0 if accepted) and answers[2 i + 1] (place), where there is
    room for both; the rest stays, so 2 * ends_length elements take all.
-   positions, sent, received: all 500 elements of each are written, by entity number: the position in cents, and the individual
-   records sent and received, at the end of the day. A refused file changes none of them, and uses up no identifier.
+   figures: figure f of entity e at the end of the day is written to figures[f * SHAYDHOQEL_ENTITIES + e], for all 500 entity numbers,
+   where there is room for it; the rest stays, so SHAYDHOQEL_FIGURES * SHAYDHOQEL_ENTITIES elements take all. A refused file changes
+   no figure, and uses up no identifier.
    After a refused opening the files are presented all the same, each is refused, and all figures are 0. */
 struct shaydhoqel_spoken shaydhoqel_day(uint64_t date, bool dollars, const uint64_t *entities, size_t entities_length,
                                         const uint64_t *ends, size_t ends_length, const uint8_t *files, size_t files_length,
-                                        uint64_t *answers, size_t answers_length, int64_t positions[SHAYDHOQEL_ENTITIES],
-                                        uint64_t sent[SHAYDHOQEL_ENTITIES], uint64_t received[SHAYDHOQEL_ENTITIES]);
+                                        uint64_t *answers, size_t answers_length, int64_t *figures, size_t figures_length);
 
 /* The listing of the session at the end of such a day, whatever the answers were. It stands at the front of out, whose rest stays;
    returned is its number of bytes. No byte 0 ends it. */

@@ -96,31 +96,39 @@ static void reads(void) {
     REQUIRE(says(shaydhoqel_read(DATE, false, roster, SLICE(l)), SHAYDHOQEL_REFUSED_ROSTER, 3));
 }
 
-struct figures {
-    int64_t positions[SHAYDHOQEL_ENTITIES];
-    uint64_t sent[SHAYDHOQEL_ENTITIES];
-    uint64_t received[SHAYDHOQEL_ENTITIES];
-};
+/* Where figure f of entity e stands, and how many numbers there are. */
+#define AT(f, e) ((f) * SHAYDHOQEL_ENTITIES + (e))
+#define ALL_FIGURES (SHAYDHOQEL_FIGURES * SHAYDHOQEL_ENTITIES)
+
+/* What is expected stands first in the buffer, as far as there is room, and behind it what was there before. */
+static bool figures_hold(const int64_t *buffer, size_t lent, size_t length, const int64_t *expected) {
+    size_t written = lent < ALL_FIGURES ? lent : ALL_FIGURES;
+    return memcmp(buffer, expected, written * sizeof *buffer) == 0
+           && all(JUNK, (const uint8_t *)(buffer + written), (length - written) * sizeof *buffer);
+}
 
 static void day_with_the_file_twice(void) {
-    static struct figures cells, expected;
+    static int64_t figures[ALL_FIGURES + 7], expected[ALL_FIGURES];
     static uint8_t files[2 * L_LENGTH];
+    const size_t lengths[] = {0, 1, 500, 1499, 1500, 1501, 1507};
     const uint64_t ends[] = {L_LENGTH, 2 * L_LENGTH};
     uint64_t answers[] = {1, 2, 3, 4, 5};
     const uint64_t expected_answers[] = {0, 0, SHAYDHOQEL_REFUSED_IDENTIFIER, 0, 5};
     const char text[] = "ENTITY SENT RECEIVED NET\n401 2 1 60000\n402 0 1 -12500\n403 1 1 -47500\nSUM 3 3 0\n";
     memcpy(files, l, L_LENGTH);
     memcpy(files + L_LENGTH, l, L_LENGTH);
-    memset(&cells, JUNK, sizeof cells);
-    REQUIRE(says(shaydhoqel_day(OPENING, SLICE(ends), SLICE(files), SLICE(answers), cells.positions, cells.sent, cells.received),
-                 SHAYDHOQEL_ACCEPTED, 0));
-    REQUIRE(memcmp(answers, expected_answers, sizeof answers) == 0);
-    expected.positions[401] = 60000;
-    expected.positions[402] = -12500;
-    expected.positions[403] = -47500;
-    expected.sent[401] = 2;
-    expected.sent[403] = expected.received[401] = expected.received[402] = expected.received[403] = 1;
-    REQUIRE(memcmp(&cells, &expected, sizeof cells) == 0);
+    expected[AT(SHAYDHOQEL_POSITION, 401)] = 60000;
+    expected[AT(SHAYDHOQEL_POSITION, 402)] = -12500;
+    expected[AT(SHAYDHOQEL_POSITION, 403)] = -47500;
+    expected[AT(SHAYDHOQEL_SENT, 401)] = 2;
+    expected[AT(SHAYDHOQEL_SENT, 403)] = 1;
+    expected[AT(SHAYDHOQEL_RECEIVED, 401)] = expected[AT(SHAYDHOQEL_RECEIVED, 402)] = expected[AT(SHAYDHOQEL_RECEIVED, 403)] = 1;
+    for (size_t i = 0; i < sizeof lengths / sizeof lengths[0]; i++) {
+        memset(figures, JUNK, sizeof figures);
+        REQUIRE(says(shaydhoqel_day(OPENING, SLICE(ends), SLICE(files), SLICE(answers), figures, lengths[i]), SHAYDHOQEL_ACCEPTED, 0));
+        REQUIRE(memcmp(answers, expected_answers, sizeof answers) == 0);
+        REQUIRE(figures_hold(figures, lengths[i], sizeof figures / sizeof figures[0], expected));
+    }
     refill();
     REQUIRE(shaydhoqel_day_listing(OPENING, SLICE(ends), SLICE(files), listing_out) == strlen(text));
     REQUIRE(holds(SLICE(listing_out), text, strlen(text)));
@@ -129,17 +137,15 @@ static void day_with_the_file_twice(void) {
     REQUIRE(holds(SLICE(listing_out), text, strlen(text)));
 }
 
-/* Nothing is lent but where the cells go: NULL where the length is 0. */
+/* Nothing is lent but where the figures go, then nothing at all: NULL where the length is 0. */
 static void empty_days(void) {
-    static struct figures cells, zeros;
+    static int64_t figures[ALL_FIGURES], zeros[ALL_FIGURES];
     const char refusal[] = "REFUSED 201 AT 0\n", nothing[] = "ENTITY SENT RECEIVED NET\nSUM 0 0 0\n";
     const uint64_t end = 0;
-    memset(&cells, JUNK, sizeof cells);
-    REQUIRE(says(shaydhoqel_day(DATE, false, NULL, 0, NULL, 0, NULL, 0, NULL, 0, cells.positions, cells.sent, cells.received),
-                 SHAYDHOQEL_ACCEPTED, 0));
-    REQUIRE(memcmp(&cells, &zeros, sizeof cells) == 0);
-    REQUIRE(says(shaydhoqel_day(OPENING, &end, 1, NULL, 0, NULL, 0, cells.positions, cells.sent, cells.received),
-                 SHAYDHOQEL_ACCEPTED, 0));
+    memset(figures, JUNK, sizeof figures);
+    REQUIRE(says(shaydhoqel_day(DATE, false, NULL, 0, NULL, 0, NULL, 0, NULL, 0, SLICE(figures)), SHAYDHOQEL_ACCEPTED, 0));
+    REQUIRE(memcmp(figures, zeros, sizeof figures) == 0);
+    REQUIRE(says(shaydhoqel_day(OPENING, &end, 1, NULL, 0, NULL, 0, NULL, 0), SHAYDHOQEL_ACCEPTED, 0));
     refill();
     REQUIRE(shaydhoqel_day_listing(DATE, false, NULL, 0, NULL, 0, NULL, 0, listing_out) == strlen(nothing));
     REQUIRE(holds(SLICE(listing_out), nothing, strlen(nothing)));
@@ -149,16 +155,14 @@ static void empty_days(void) {
 }
 
 static void bad_openings(void) {
-    static struct figures cells, zeros;
+    static int64_t figures[ALL_FIGURES], zeros[ALL_FIGURES];
     const uint64_t end = L_LENGTH, bad[] = {401, 402, 403, 500};
     uint64_t answer[2];
-    REQUIRE(says(shaydhoqel_day(DATE + 1, false, SLICE(bad), NULL, 0, NULL, 0, NULL, 0, cells.positions, cells.sent, cells.received),
-                 SHAYDHOQEL_REFUSED_DATE, 0));
-    memset(&cells, JUNK, sizeof cells);
-    REQUIRE(says(shaydhoqel_day(DATE, false, SLICE(bad), &end, 1, SLICE(l), SLICE(answer), cells.positions, cells.sent, cells.received),
-                 SHAYDHOQEL_REFUSED_ENTITY, 0));
+    REQUIRE(says(shaydhoqel_day(DATE + 1, false, SLICE(bad), NULL, 0, NULL, 0, NULL, 0, NULL, 0), SHAYDHOQEL_REFUSED_DATE, 0));
+    memset(figures, JUNK, sizeof figures);
+    REQUIRE(says(shaydhoqel_day(DATE, false, SLICE(bad), &end, 1, SLICE(l), SLICE(answer), SLICE(figures)), SHAYDHOQEL_REFUSED_ENTITY, 0));
     REQUIRE(answer[0] == SHAYDHOQEL_REFUSED_DATE && answer[1] == 0);
-    REQUIRE(memcmp(&cells, &zeros, sizeof cells) == 0);
+    REQUIRE(memcmp(figures, zeros, sizeof figures) == 0);
     refill();
     REQUIRE(says(shaydhoqel_extract(DATE, false, SLICE(bad), 402, SLICE(l), SLICE(file_out)), SHAYDHOQEL_REFUSED_ENTITY, 0));
     REQUIRE(says(shaydhoqel_strip(DATE, false, SLICE(bad), SLICE(l), SLICE(tray_out)), SHAYDHOQEL_REFUSED_DATE, 0));

@@ -22,7 +22,7 @@ unsafe extern "C" {
     fn shaydhoqel_read(
         date: u64,
         dollars: bool,
-        roster: &Roster,
+        roster: &[bool; ENTITIES],
         file: *const u8,
         file_length: usize,
     ) -> Spoken;
@@ -38,9 +38,8 @@ unsafe extern "C" {
         files_length: usize,
         answers: *mut u64,
         answers_length: usize,
-        positions: &mut [i64; ENTITIES],
-        sent: &mut [u64; ENTITIES],
-        received: &mut [u64; ENTITIES],
+        figures: *mut i64,
+        figures_length: usize,
     ) -> Spoken;
 
     fn shaydhoqel_day_listing(
@@ -119,17 +118,17 @@ pub fn read(date: u64, currency: Currency, roster: &Roster, file: &[u8]) -> Spok
     unsafe { shaydhoqel_read(date, dollars(currency), roster, file.as_ptr(), file.len()) }
 }
 
-/// Answer `i` stands in `answers[2 * i]` and the element behind it, where there is room for both.
+/// Answer `i` stands in `answers[2 * i]` and the element behind it, where there is room for both; figure `f` of entity `e` in
+/// `figures[f * ENTITIES + e]`, where there is room for it.
 pub fn day(
     opening: &Opening,
     ends: &[u64],
     files: &[u8],
     answers: &mut [u64],
-    positions: &mut [i64; ENTITIES],
-    sent: &mut [u64; ENTITIES],
-    received: &mut [u64; ENTITIES],
+    figures: &mut [i64],
 ) -> Spoken {
-    let (lent, length) = (answers.as_mut_ptr(), answers.len());
+    let (answers, answers_length) = (answers.as_mut_ptr(), answers.len());
+    let (figures, figures_length) = (figures.as_mut_ptr(), figures.len());
     // SAFETY: as for reading; what is written is borrowed mutably, so that it overlaps nothing.
     unsafe {
         opened!(
@@ -137,11 +136,10 @@ pub fn day(
             opening,
             [],
             [ends, files],
-            lent,
-            length,
-            positions,
-            sent,
-            received
+            answers,
+            answers_length,
+            figures,
+            figures_length
         )
     }
 }

@@ -47,6 +47,18 @@ pub const ENTITIES: usize = 500;
 /// Bytes of the longest listing.
 pub const LISTING: usize = 33_525;
 
+/// The figure of a cell that is its position in cents. In a buffer of figures, figure `f` of entity `e` stands at `f * ENTITIES + e`.
+pub const POSITION: usize = 0;
+
+/// The figure that is the individual records sent.
+pub const SENT: usize = 1;
+
+/// The figure that is the individual records received.
+pub const RECEIVED: usize = 2;
+
+/// How many figures there are.
+pub const FIGURES: usize = 3;
+
 /// `roster[e]` says whether entity `e` is on it.
 pub type Roster = [bool; ENTITIES];
 

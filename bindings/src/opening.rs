@@ -1,7 +1,7 @@
 //! A session's opening, and the jobs done in it.
 
 use crate::calls::{self, Spoken};
-use crate::{listed, Refusal, ENTITIES};
+use crate::{listed, Refusal, ENTITIES, FIGURES, POSITION, RECEIVED, SENT};
 
 #[derive(Clone, Copy, Debug, PartialEq, Eq)]
 pub enum Currency {
@@ -52,17 +52,8 @@ impl Opening<'_> {
     /// Presents the files in turn. A refused one changes no cell and uses up no identifier.
     pub fn day(&self, files: &[&[u8]]) -> Day {
         let mut said = vec![0; 2 * files.len()];
-        let mut positions = [0; ENTITIES];
-        let (mut sent, mut received) = ([0; ENTITIES], [0; ENTITIES]);
-        let opened = calls::day(
-            self,
-            &ends(files),
-            &files.concat(),
-            &mut said,
-            &mut positions,
-            &mut sent,
-            &mut received,
-        );
+        let mut figures = [0; FIGURES * ENTITIES];
+        let opened = calls::day(self, &ends(files), &files.concat(), &mut said, &mut figures);
         let answer = |pair: &[u64]| {
             let (number, place) = (pair[0], pair[1]);
             Spoken { number, place }.answer()
@@ -70,10 +61,13 @@ impl Opening<'_> {
         Day {
             opening: opened.answer(),
             answers: said.chunks_exact(2).map(answer).collect(),
-            cells: std::array::from_fn(|entity| Cell {
-                position: positions[entity],
-                sent: sent[entity],
-                received: received[entity],
+            cells: std::array::from_fn(|entity| {
+                let figure = |figure| figures[figure * ENTITIES + entity];
+                Cell {
+                    position: figure(POSITION),
+                    sent: figure(SENT) as u64,
+                    received: figure(RECEIVED) as u64,
+                }
             }),
         }
     }

@@ -3,7 +3,9 @@
 mod common;
 
 use common::{junk, lent, record, refused, tray_of, L, OPENING};
-use desk::{Cell, Currency, Opening, Refusal, ENTITIES, FILE_LIMIT, RECORD, TRAY_ROOM};
+use desk::calls::{self, Spoken};
+use desk::{Cell, Currency, Opening, Refusal};
+use desk::{ENTITIES, FIGURES, FILE_LIMIT, POSITION, RECEIVED, RECORD, SENT, TRAY_ROOM};
 
 const LISTING: &str = "ENTITY SENT RECEIVED NET
 401 2 1 60000
@@ -43,6 +45,43 @@ fn day_with_the_file_twice() {
         };
     }
     assert_eq!(day.cells, expected);
+}
+
+/// The figures at the end of a day with case L.
+fn figures() -> Vec<i64> {
+    let mut figures = vec![0; FIGURES * ENTITIES];
+    for (figure, entity, number) in [
+        (POSITION, 401, 60_000),
+        (POSITION, 402, -12_500),
+        (POSITION, 403, -47_500),
+        (SENT, 401, 2),
+        (SENT, 403, 1),
+        (RECEIVED, 401, 1),
+        (RECEIVED, 402, 1),
+        (RECEIVED, 403, 1),
+    ] {
+        figures[figure * ENTITIES + entity] = number;
+    }
+    figures
+}
+
+#[test]
+fn figures_in_a_buffer_of_any_length() {
+    const JUNK: i64 = -0x5a5a_5a5a_5a5a_5a5b;
+    let (figures, behind) = (figures(), 3);
+    for length in [0, 1, 402, 500, 902, 1_499, 1_500, 1_501, 2_000, 2_500] {
+        let mut buffer = vec![JUNK; length + behind];
+        let ends = [L.len() as u64];
+        let said = calls::day(&OPENING, &ends, L, &mut [], &mut buffer[..length]);
+        let (number, place) = (0, 0);
+        assert_eq!(said, Spoken { number, place });
+        let (written, rest) = buffer.split_at(length.min(figures.len()));
+        assert_eq!(written, &figures[..written.len()], "{length} were lent");
+        assert!(
+            rest.iter().all(|&number| number == JUNK),
+            "{length} were lent"
+        );
+    }
 }
 
 #[test]

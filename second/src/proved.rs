@@ -6,13 +6,13 @@ use crate::day::{Day, Opening, Outcome};
 use crate::session::CELLS;
 use crate::{Cell, Currency, Refusal, Rules, Written};
 use desk::calls::{self, Spoken};
-use desk::LISTING;
+use desk::{FIGURES, LISTING, POSITION, RECEIVED, SENT};
 
 /// What buffers hold before a call: no figure, number or text that could be right.
 const JUNK_BYTE: u8 = 0xa5;
 const JUNK: u64 = 0xa5a5_a5a5_a5a5_a5a5;
 
-/// Words behind the answers that nobody lent.
+/// Words behind the answers, and behind the figures, that nobody lent.
 const GUARD: usize = 2;
 
 /// Bytes before and behind a buffer that nobody lent: more than two records.
@@ -31,18 +31,17 @@ pub fn read(rules: &Rules, file: &[u8]) -> Result<usize, Refusal> {
 pub fn day(day: &Day) -> Outcome {
     let lent = 2 * day.ends().len();
     let mut answers = vec![JUNK; lent + GUARD];
-    let mut positions = [JUNK as i64; CELLS];
-    let (mut sent, mut received) = ([JUNK; CELLS], [JUNK; CELLS]);
+    let mut figures = [JUNK as i64; FIGURES * CELLS + GUARD];
     let said = calls::day(
         &theirs(&day.opening),
         day.ends(),
         day.bytes(),
         &mut answers[..lent],
-        &mut positions,
-        &mut sent,
-        &mut received,
+        &mut figures[..FIGURES * CELLS],
     );
     assert_eq!(answers[lent..], [JUNK; GUARD], "written behind the answers");
+    let behind = &figures[FIGURES * CELLS..];
+    assert_eq!(behind, [JUNK as i64; GUARD], "written behind the figures");
     Outcome {
         opening: answer(said.number, said.place),
         answers: answers[..lent]
@@ -50,9 +49,9 @@ pub fn day(day: &Day) -> Outcome {
             .map(|said| answer(said[0], said[1]))
             .collect(),
         cells: std::array::from_fn(|entity| Cell {
-            position: positions[entity],
-            sent: sent[entity],
-            received: received[entity],
+            position: figures[POSITION * CELLS + entity],
+            sent: figures[SENT * CELLS + entity] as u64,
+            received: figures[RECEIVED * CELLS + entity] as u64,
         }),
     }
 }

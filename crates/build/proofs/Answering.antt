@@ -19,7 +19,7 @@ module _ (header tray buffer : List ℕ) {batches : ℕ} (n : batches ≡ batche
   answered s l r z a = a ∙ rw (z, s, l, r, n) (buildable-as header tray buffer)
 
   pub wrote : {after : List ℕ} → buildable header tray buffer ≡ accepted → after ≡ over (build header tray) buffer
-      → _≡_ {A = Outcome} (record { answer = accepted; written = (length tray / 96 + batches + 2) * 94; buffer = after })
+      → _≡_ {A = Outcome} (record { answer = accepted; size = (length tray / 96 + batches + 2) * 94; buffer = after })
       (written (buildable header tray buffer) (build header tray) buffer)
   unfolding written
   wrote b o = rw (b, o, n, built-fits header tray buffer b .4) refl

@@ -16,8 +16,8 @@ mod batch;
 mod numbering;
 mod whole;
 
-// 201 of a file of so many records.
-fn length(records: usize) -> Answer
+// 201 of a file of too many records.
+fn unless_too_long(records: usize) -> Answer
     ensures { λ r. ⌜ said r ≡ require (leb records 10000) 201 0 ⌝ }
 {
     if State::MOST < records {
@@ -43,7 +43,7 @@ pub fn build(header: &[u8], tray: &[u8], out: &mut [u8]) -> Output
 {
     let records = tray.len() / Tray::RECORD + tray::batches(tray) + records::FRAME;
     let shape = tray::answer(header, tray);
-    let long = length(records);
+    let long = unless_too_long(records);
     let room = room(records, out.len());
     let size = long.and_then(room);
     let answer = shape.and_then(size);

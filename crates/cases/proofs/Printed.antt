@@ -2,9 +2,9 @@
 use mathlib.Core.Path.{refl}
 use Rattle.paper.specs.Computing.{computing}
 use Rattle.paper.specs.Claims.{All, done, _and_}
-use Rattle.cases.specs.Printed.{printed}
+use Rattle.cases.specs.Printed.{printedRows}
 
-pub printed-cases : All printed
+pub printed-cases : All printedRows
 unfolding computing
 printed-cases =
     refl and refl and refl and refl and refl and refl and refl and refl and refl and refl and  -- 36

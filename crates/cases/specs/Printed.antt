@@ -38,8 +38,8 @@ afterEnds =
     (presenting ((opening 250630 Pesos (499 ∷ 401 ∷ 403 ∷ 1 ∷ [])) .session)
     (put 2 4 "0001" (put 3 4 "0499" (put 4 11 "0005000003" (put 9 22 "0009010004" caseL))))) .session
 
-abbrev pub printed : List Row
-printed =
+abbrev pub printedRows : List Row
+printedRows =
     case 36 (prints dollarsL (heading ∷ "401 2 1 60000" ∷ "402 0 1 -12500" ∷ "403 1 1 -47500" ∷ "SUM 3 3 0" ∷ [])) ∷
     case 36 (prints toItself (heading ∷ "401 2 2 47500" ∷ "403 1 1 -47500" ∷ "SUM 3 3 0" ∷ [])) ∷
     case 36 (prints empty (heading ∷ "SUM 0 0 0" ∷ [])) ∷

@@ -2,7 +2,7 @@
 ghost use mathlib.Core.Path.{_≡_};
 ghost use lib.ListN.{length};
 ghost use Rattle.paper.specs.Controls.{batchControl};
-ghost use Rattle.record.specs.Verdicts.{told};
+ghost use Rattle.record.specs.Verdicts.{checkOf};
 use crate::control;
 use field::number;
 use field::text;
@@ -13,7 +13,7 @@ use record::verdict::Verdict;
 pub fn judge(header: &[u8], tally: Tally, rec: &[u8]) -> Verdict
     requires { ⌜ length (now header) ≡ 94 ⌝ }
     requires { ⌜ length (now rec) ≡ 94 ⌝ }
-    ensures { λ r. ⌜ told r ≡ batchControl (now (header .entry)) tally (now (rec .entry)) ⌝ }
+    ensures { λ r. ⌜ checkOf r ≡ batchControl (now (header .entry)) tally (now (rec .entry)) ⌝ }
 {
     Verdict::Right
         .need(text::same(rec, 2, 4, header, 2, 4), Fault::Format)

@@ -3,7 +3,7 @@ ghost use mathlib.Core.Path.{_≡_};
 ghost use Prim.Native.Nat.{_≤_, _+_};
 ghost use lib.ListN.{length};
 ghost use Rattle.paper.specs.Controls.{blocks, fileControl};
-ghost use Rattle.record.specs.Verdicts.{told};
+ghost use Rattle.record.specs.Verdicts.{checkOf};
 use crate::control;
 use field::number;
 use paper::answer::Fault;
@@ -22,7 +22,7 @@ pub fn blocks(all: u64) -> u64
 pub fn judge(all: u64, batches: u64, tally: Tally, rec: &[u8]) -> Verdict
     requires { ⌜ all ≤ 10000 ⌝ }
     requires { ⌜ length (now rec) ≡ 94 ⌝ }
-    ensures { λ r. ⌜ told r ≡ fileControl all batches tally (now (rec .entry)) ⌝ }
+    ensures { λ r. ⌜ checkOf r ≡ fileControl all batches tally (now (rec .entry)) ⌝ }
 {
     Verdict::Right
         .need(number::spells(rec, 2, 7, batches), Fault::Format)

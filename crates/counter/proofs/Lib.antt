@@ -1,1 +1,4 @@
+pub mod Zeros
 pub mod Written
+pub mod Looking
+pub mod Gathering

@@ -1,11 +1,7 @@
 // The five jobs: files are read, the desk is asked, its answer is printed, and bytes go out where it accepts.
-ghost use Prim.Native.Nat.{_≤_};
-ghost use lib.ListN.{length};
+ghost use Prim.Native.Nat.{_<_};
 ghost use Rattle.desk.specs.Calls.{Reachable};
-ghost use Rattle.counter.specs.Inside.{Inside};
-use crate::call;
-use crate::call::Job;
-use crate::call::Word;
+ghost use Rattle.counter.specs.InBuffer.{InBuffer};
 use crate::held;
 use crate::held::Held;
 use crate::trays;
@@ -13,13 +9,18 @@ use crate::trays::Looked;
 use desk::Reply;
 use desk::Session;
 use files::handing;
+use files::handing::Handed;
 use files::taking;
+use files::taking::Opened;
 use files::taking::Taken;
 use libc::STDOUT_FILENO;
+use listing::Listing;
 use listing::answers;
-use listing::lines::Listing;
 use paper::answer::Answer;
 use paper::answer::Output;
+use typed::call::Job;
+use typed::call::Word;
+use typed::words;
 
 // An answer that nobody can read is no answer.
 fn printed(whole: bool) {
@@ -28,7 +29,7 @@ fn printed(whole: bool) {
     }
 }
 
-pub fn say_opening(answer: Answer) {
+fn say_opening(answer: Answer) {
     let mut line = [0u8; Listing::ROOM];
     let n = answers::opening(answer, &mut line);
     printed(io::write_all(STDOUT_FILENO, &line[..n]));
@@ -61,19 +62,22 @@ fn list(session: Session)
 
 // Acceptance is said once the bytes are where they belong.
 fn hand_over(word: usize, output: Output, out: &[u8])
-    requires { ⌜ Inside output (now out) ⌝ }
+    requires { ⌜ InBuffer output (now out) ⌝ }
 {
-    if let Output::Accepted(n) = output {
-        if !handing::put(word, &out[..n]) {
-            return;
-        }
-    }
-    say_output(output);
+    let Output::Accepted(n) = output else {
+        say_output(output);
+        return;
+    };
+    let handed = handing::put(word, &out[..n]);
+    let Handed::Whole(bytes) = handed else {
+        return;
+    };
+    say_output(Output::Accepted(bytes));
 }
 
 fn read(session: Session) {
     let mut input = held::input();
-    let taken = taking::take(Word::FIRST, &mut input);
+    let taken = taking::file(Word::FIRST, &mut input);
     let Taken::Bytes(n) = taken else {
         return;
     };
@@ -91,7 +95,7 @@ fn present_one(session: Session, word: usize) -> Turn
     ensures { λ r. ⌜ Reachable (r .session) ⌝ }
 {
     let mut input = held::input();
-    let taken = taking::take(word, &mut input);
+    let taken = taking::file(word, &mut input);
     let Taken::Bytes(n) = taken else {
         return Turn {
             ready: false,
@@ -126,20 +130,28 @@ fn present(session: Session)
     list(after);
 }
 
+fn entity() -> u64
+    ensures { λ r. ⌜ r < 5000 ⌝ }
+{
+    let mut word = io::buffer();
+    let length = os::arg(Word::FIRST, &mut word);
+    words::entity(&word[..length])
+}
+
 fn extract(session: Session) {
     let mut input = held::input();
-    let taken = taking::take(Word::SECOND, &mut input);
+    let taken = taking::file(Word::SECOND, &mut input);
     let Taken::Bytes(n) = taken else {
         return;
     };
     let mut out = held::output();
-    let output = session.extract(call::entity(), &input[..n], &mut out);
+    let output = session.extract(entity(), &input[..n], &mut out);
     hand_over(Word::THIRD, output, &out);
 }
 
 fn strip(session: Session) {
     let mut input = held::input();
-    let taken = taking::take(Word::FIRST, &mut input);
+    let taken = taking::file(Word::FIRST, &mut input);
     let Taken::Bytes(n) = taken else {
         return;
     };
@@ -151,7 +163,7 @@ fn strip(session: Session) {
 fn build(session: Session) {
     // one byte more than a header body shows that there was more
     let mut header = [0u8; Session::RECORD + 1];
-    let taken = taking::take(Word::FIRST, &mut header);
+    let taken = taking::file(Word::FIRST, &mut header);
     let Taken::Bytes(n) = taken else {
         return;
     };
@@ -164,10 +176,10 @@ fn build_from(session: Session, header: &[u8]) {
     if length == 0 {
         return;
     }
-    let fd = taking::open(&path[..length]);
-    if fd < 0 {
+    let opened = taking::open(&path[..length]);
+    let Opened::At(fd) = opened else {
         return;
-    }
+    };
     let mut input = held::input();
     let taken = taking::fill(fd, &path[..length], &mut input);
     let Taken::Bytes(n) = taken else {
@@ -182,19 +194,24 @@ fn build_from(session: Session, header: &[u8]) {
     hand_over(Word::THIRD, output, &out);
 }
 
-fn say_long(fd: i32, path: &[u8], header: &[u8], input: &[u8])
-    requires { ⌜ length (now input) ≤ 960096 ⌝ }
-{
-    let looked = trays::look(fd, path, header, input);
+fn say_long(fd: i32, path: &[u8], header: &[u8], first: &[u8; Held::INPUT]) {
+    let looked = trays::look(fd, path, header, first);
     let Looked::Found(answer) = looked else {
         return;
     };
     say(answer);
 }
 
-pub fn run(job: Job, session: Session)
-    requires { ⌜ Reachable session ⌝ }
+// The job, where the session was opened.
+pub(crate) fn run(job: Job, opened: Reply)
+    requires { ⌜ Reachable (opened .session) ⌝ }
 {
+    let answer = opened.answer;
+    let Answer::Accepted = answer else {
+        say_opening(answer);
+        return;
+    };
+    let session = opened.session;
     match job {
         Job::Read => read(session),
         Job::Present => present(session),

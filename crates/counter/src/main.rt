@@ -1,31 +1,78 @@
 // The counter: the desk's five jobs from a shell. Here is reading, calling and writing; what is answered and printed is proved in the crates below.
-use call::Asked;
+ghost use Prim.Native.Nat.{_^_, _<_};
 use desk::Session;
-use files::taking::Taken;
-use paper::answer::Answer;
+use libc::STDERR_FILENO;
+use roster::Listed;
+use typed::call;
+use typed::call::Asked;
+use typed::call::Word;
+use typed::words;
 
-mod call;
 mod held;
 mod jobs;
 mod roster;
 mod trays;
 
+// What the words of this call ask for.
+fn called() -> Asked {
+    let mut job = io::buffer();
+    let length = os::arg(Word::JOB, &mut job);
+    let mut currency = io::buffer();
+    let width = os::arg(Word::CURRENCY, &mut currency);
+    call::asked_for(&job[..length], &currency[..width], os::arg_count())
+}
+
+fn date() -> u64
+    ensures { λ r. ⌜ r < 10 ^ 6 ⌝ }
+{
+    let mut word = io::buffer();
+    let length = os::arg(Word::DATE, &mut word);
+    words::date(&word[..length])
+}
+
+fn usage() {
+    io::write_all(
+        STDERR_FILENO,
+        b"usage: counter read DATE CURRENCY ROSTER FILE\n",
+    );
+    io::write_all(
+        STDERR_FILENO,
+        b"       counter present DATE CURRENCY ROSTER FILE..\n",
+    );
+    io::write_all(
+        STDERR_FILENO,
+        b"       counter extract DATE CURRENCY ROSTER ENTITY FILE OUT\n",
+    );
+    io::write_all(
+        STDERR_FILENO,
+        b"       counter build DATE CURRENCY ROSTER HEADER TRAY OUT\n",
+    );
+    io::write_all(
+        STDERR_FILENO,
+        b"       counter strip DATE CURRENCY ROSTER FILE OUT\n",
+    );
+    io::write_all(
+        STDERR_FILENO,
+        b"DATE is AAMMDD, CURRENCY pesos or dollars, ROSTER a file of entity numbers or the word all.\n",
+    );
+}
+
+// Of a roster or a tray that is read to its end, and has none.
+fn say_endless(path: &[u8]) {
+    io::write_all(STDERR_FILENO, path);
+    io::write_all(STDERR_FILENO, b": has no end\n");
+}
+
 fn main() {
-    let asked = call::words();
-    let Asked::Job(job) = asked else {
-        call::usage();
+    let asked = called();
+    let Asked::To(job, currency) = asked else {
+        usage();
         return;
     };
     let mut entities = [0u64; Session::ROSTER];
-    let taken = roster::take(&mut entities);
-    let Taken::Bytes(count) = taken else {
+    let listed = roster::gather(&mut entities);
+    let Listed::Entities(count) = listed else {
         return;
     };
-    let opened = Session::open(call::date(), call::currency(), &entities[..count]);
-    let answer = opened.answer;
-    let Answer::Accepted = answer else {
-        jobs::say_opening(answer);
-        return;
-    };
-    jobs::run(job, opened.session);
+    jobs::run(job, Session::open(date(), currency, &entities[..count]));
 }

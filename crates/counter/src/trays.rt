@@ -1,73 +1,81 @@
 // A tray longer than any file can be built from: it is looked at piece by piece, and the answer is that of building.
-ghost use Prim.Native.Nat.{_+_, _^_, _≤_};
-ghost use lib.ListN.{length};
+ghost use Rattle.counter.specs.Looking.{LookedOn, LookedThrough, Looks};
 use crate::held;
+use crate::held::Held;
+use crate::say_endless;
 use files::taking;
 use files::taking::Taken;
 use paper::answer::Answer;
+use tray::pieces::Known;
 use tray::pieces::Pieces;
 
-// What was found in a tray; or reading it failed, and that was said.
-pub enum Looked {
+// What was found in a tray; or looking at it failed, and that was said.
+pub(crate) enum Looked {
     Found(Answer),
     Failed,
 }
 
-// What is known after a piece of the tray: whether it was read, and whether there is more.
-struct Piece {
-    read: bool,
-    more: bool,
-    seen: Pieces,
+// A further piece: how many bytes, and what is known with them; or reading failed, and that was said.
+enum Piece {
+    Read(usize, Pieces),
+    Failed,
 }
 
-fn look_on(seen: Pieces, fd: i32, path: &[u8]) -> Piece
-    requires { ⌜ seen .records ≤ 2 ^ 60 ⌝ }
-    ensures { λ r. ⌜ r .seen .records ≤ seen .records + 10001 ⌝ }
+// Where looking has come to: the last piece, as above; or past all that is looked at; or reading failed.
+enum Reached {
+    End(usize, Pieces),
+    NoEnd,
+    Failed,
+}
+
+fn look_on(seen: Pieces, fd: i32, path: &[u8], buffer: &mut [u8]) -> Piece
+    ensures { λ r. ⌜ LookedOn seen (now (buffer .exit)) r ⌝ }
 {
-    let mut piece = held::input();
-    let taken = taking::fill(fd, path, &mut piece);
+    let taken = taking::fill(fd, path, buffer);
     let Taken::Bytes(n) = taken else {
-        return Piece {
-            read: false,
-            more: false,
-            seen,
-        };
+        return Piece::Failed;
     };
-    let after = seen.read(&piece[..n]);
-    Piece {
-        read: true,
-        more: n == piece.len(),
-        seen: after,
-    }
+    Piece::Read(n, seen.read(&buffer[..n]))
 }
 
-// To its end. The turns are more than any run uses up, as for a roster.
-fn look_at_all(first: Pieces, fd: i32, path: &[u8]) -> Piece
-    requires { ⌜ first .records ≤ 10001 ⌝ }
+// A tray has ended where a piece does not fill the buffer. Each full one adds records, so the loop ends by what it has seen.
+fn look_through(
+    first: &[u8; Held::INPUT],
+    fd: i32,
+    path: &[u8],
+    buffer: &mut [u8; Held::INPUT],
+) -> Reached
+    ensures { λ r. ⌜ LookedThrough (now (first .entry)) (now (buffer .exit)) r ⌝ }
 {
-    let mut after = Piece {
-        read: true,
-        more: true,
-        seen: first,
-    };
-    let mut turns = u32::MAX;
-    while turns > 0 && after.more {
-        let seen = after.seen;
-        after = look_on(seen, fd, path);
-        turns -= 1;
+    let mut seen = Pieces::begun().read(first);
+    while seen.records <= Pieces::MOST {
+        let piece = look_on(seen, fd, path, buffer);
+        let Piece::Read(n, after) = piece else {
+            return Reached::Failed;
+        };
+        if n < Held::INPUT {
+            return Reached::End(n, after);
+        }
+        seen = after;
     }
-    after
+    Reached::NoEnd
 }
 
 // The first piece was read, and fills its buffer.
-pub fn look(fd: i32, path: &[u8], header: &[u8], piece: &[u8]) -> Looked
-    requires { ⌜ length (now piece) ≤ 960096 ⌝ }
+pub(crate) fn look(fd: i32, path: &[u8], header: &[u8], first: &[u8; Held::INPUT]) -> Looked
+    ensures { λ r. ⌜ Looks (now (header .entry)) (now (first .entry)) r ⌝ }
 {
-    let first = Pieces::begun().read(piece);
-    let after = look_at_all(first, fd, path);
-    if !after.read {
+    let mut buffer = held::input();
+    let reached = look_through(first, fd, path, &mut buffer);
+    if let Reached::Failed = reached {
         return Looked::Failed;
     }
-    let seen = after.seen;
-    Looked::Found(seen.answer(header))
+    if let Reached::End(_, seen) = reached {
+        let known = seen.answer(header);
+        if let Known::Answered(answer) = known {
+            return Looked::Found(answer);
+        }
+    }
+    say_endless(path);
+    Looked::Failed
 }

@@ -18,12 +18,12 @@ pub listed-few : (roster : List Bool) (e : ℕ) → (within 1 499 e && getD rost
 listed-few roster e h = let l = below-500 e (of-T (within 1 499 e) (and-l (within 1 499 e) (getD roster e false) (T-of h))) in omega arith
 
 module _ (rules : Rules) (e : ℕ) (file buffer : List ℕ) where
-  pub not-listed : (within 1 499 e && getD (rules .roster) e false) ≡ false → record { answer = refused 208 0; written = 0; buffer = buffer } ≡ extracting rules e file buffer
+  pub not-listed : (within 1 499 e && getD (rules .roster) e false) ≡ false → record { answer = refused 208 0; size = 0; buffer = buffer } ≡ extracting rules e file buffer
   unfolding extracting entityGiven andThen require written
   not-listed h = rw h refl
 
   module _ (listed : (within 1 499 e && getD (rules .roster) e false) ≡ true) where
-    pub not-read : {n place : ℕ} → reading rules file ≡ refused n place → record { answer = refused n place; written = 0; buffer = buffer } ≡ extracting rules e file buffer
+    pub not-read : {n place : ℕ} → reading rules file ≡ refused n place → record { answer = refused n place; size = 0; buffer = buffer } ≡ extracting rules e file buffer
     unfolding extracting entityGiven andThen require written
     not-read h = rw (listed, h) refl
 

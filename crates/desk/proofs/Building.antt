@@ -26,10 +26,10 @@ use Rattle.build.proofs.Sizes.{built-fits}
 use Rattle.desk.specs.declared.Session.{Session}
 use Rattle.desk.specs.Standing.{rulesOf}
 use Rattle.desk.specs.Lent.{handed}
-use Rattle.desk.specs.Trays.{Builds, answerToBuild, Buildable, TrayBad, Spaced}
+use Rattle.desk.specs.Trays.{Builds, answerToBuild, Buildable, TrayBad, NotBuildable, Spaced}
 use Rattle.desk.proofs.Lent.{same-length, numbers, held, inside}
 use Rattle.paper.proofs.ReadingNumbers.{recordNumbers, reading-number}
-use Rattle.desk.proofs.TrayFaults.{none-bad, Refuses, bad-tray, too-long, no-room, refuses}
+use Rattle.desk.proofs.TrayFaults.{none-bad, bad-tray, too-long, no-room, refuses}
 
 module _ (s : Session) (header tray before : List ℕ) where
   -- an answer of acceptance asks for all of it, and for no more
@@ -49,7 +49,7 @@ module _ (s : Session) (header tray before : List ℕ) where
       rw (x .body, x .whole, none-bad tray (x .good), long, room, x .reads) refl
 
   -- a number that no fault of a record has comes from before the reading
-  own : {n place : ℕ} → (T (among recordNumbers n) → ⊥) → answerToBuild s header tray before ≡ refused n place → Refuses header tray before n place
+  own : {n place : ℕ} → (T (among recordNumbers n) → ⊥) → answerToBuild s header tray before ≡ refused n place → NotBuildable header tray before n place
   unfolding buildable
   own {n} {place} none h = go (first-refusal (buildable header tray before) (reading (rulesOf s) file) h)
     where
@@ -62,7 +62,7 @@ module _ (s : Session) (header tray before : List ℕ) where
           required (lengthGood (length file)) 201 0 (both-accept (require (lengthGood (length file)) 201 0) (roomFor file before) (both-accept (trayAnswer header tray) later b .1) .0)
 
       go : (buildable header tray before ≡ refused n place) ⊎ ((buildable header tray before ≡ accepted) × (reading (rulesOf s) file ≡ refused n place))
-          → Refuses header tray before n place
+          → NotBuildable header tray before n place
       go (inl x) = refuses header tray before x
       go (inr x) = ⊎-elim (λ y. absurd (rw (y .0) at (good (x .0)))) (λ t. absurd (none t)) (reading-number (rulesOf s) file (x .1))
 

@@ -21,10 +21,10 @@ use Rattle.desk.specs.declared.Reply.{Reply}
 use Rattle.desk.specs.Standing.{standing}
 use Rattle.desk.specs.Calls.{Opens, Came, opened, presented, Reachable}
 
-pub in-paper : {s : Session} {files : List (List ℕ)} → Came s files → calls.Came (standing s) files
-in-paper (opened date currency entities r h) = subst (λ (x : paper.Reply). calls.Came (x .session) []) (sym h) (calls.opened date currency entities)
+pub in-paper : {s : Session} {files : List (List ℕ)} → Came s files → calls.Arose (standing s) files
+in-paper (opened date currency entities r h) = subst (λ (x : paper.Reply). calls.Arose (x .session) []) (sym h) (calls.opened date currency entities)
 in-paper (presented {s} {files} c file r h) =
-    subst (λ (x : paper.Reply). calls.Came (x .session) (withAccepted (x .answer) files file)) (sym h) (calls.presented (in-paper c) file)
+    subst (λ (x : paper.Reply). calls.Arose (x .session) (withAccepted (x .answer) files file)) (sym h) (calls.presented (in-paper c) file)
 
 -- from the one premise: no figure of a cell, nor of a sum over cells, comes near 64 bits
 pub room : {s : Session} → Reachable s → (e : ℕ) → Touched sessionSides (getD (s .cells) e zeroCell)

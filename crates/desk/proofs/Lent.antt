@@ -46,7 +46,7 @@ module _ (a : Said) (new before : List ℕ) (r : Output) (after : List ℕ) (h :
   unfolding handed over
   held {n} p =
       let w = wrote (asked p) in
-      let l : n ≡ length new = ap (λ (x : Output). told x after .written) (sym p ∙ w .0) in (
+      let l : n ≡ length new = ap (λ (x : Output). told x after .size) (sym p ∙ w .0) in (
         ap (λ (x : Output). handed x after) p ∙ ap (take n) (w .1) ∙ take-at new (drop (length new) before) n (sym l),
         l,
         ap (drop n) (w .1) ∙ subst (λ (m : ℕ). drop m (over new before) ≡ drop m before) (sym l) (over-rest new before),

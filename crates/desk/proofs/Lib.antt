@@ -5,7 +5,7 @@ pub mod Replies
 pub mod Once
 pub mod Cells
 pub mod Newness
-pub mod Standings
+pub mod RefusalPlaces
 pub mod Demands
 pub mod Lent
 pub mod Extracts
@@ -16,5 +16,6 @@ pub mod RoundTrips
 pub mod Asking
 pub mod Traying
 pub mod TrayFaults
+pub mod Naming
 pub mod Sizes
 pub mod LongTrays

@@ -1,6 +1,6 @@
 -- A tray of more than 10,000 records: the answer is 207's, else 201, and the buffer stays. Neither the file, nor the reading, nor the buffer is looked
 -- at, and 207's first bad record is found piece by piece: so a program that cannot hold such a tray may still answer it exactly as the desk does.
-use Prim.Native.Nat.{ℕ, _%_, _<_}
+use Prim.Native.Nat.{ℕ, _/_, _%_, _<_}
 use native.Mathlib.Omega.{arith}
 use mathlib.Core.Bool.{_&&_}
 use mathlib.Core.List.{List}
@@ -16,7 +16,8 @@ use Rattle.paper.specs.Buffers.{Outcome, told, trayAnswer, buildable, building}
 use Rattle.paper.proofs.Refusals.{and-then-assoc}
 use Rattle.paper.proofs.Lent.{building-stays}
 use Rattle.tray.specs.declared.pieces.Pieces.{Pieces}
-use Rattle.tray.specs.Seen.{Seen}
+use Rattle.tray.specs.declared.pieces.Known.the-variants.{Answered, Endless}
+use Rattle.tray.specs.Seen.{mostSeen, Seen, Tells}
 use Rattle.tray.proofs.Places.{sound-of}
 use Rattle.build.proofs.Sizes.{build-length}
 use Rattle.desk.specs.declared.Session.{Session}
@@ -24,13 +25,13 @@ use Rattle.desk.specs.Standing.{rulesOf}
 use Rattle.desk.specs.Trays.{Builds}
 use Rattle.desk.proofs.TrayFaults.{too-long}
 
-module _ (s : Session) (header tray before : List ℕ) (r : Output) (after : List ℕ) (h : Builds s header tray before r after) (long : 960000 < length tray) where
+module _ (s : Session) (header tray before : List ℕ) (long : 960000 < length tray) where
   abbrev refusal : Said → Outcome
-  refusal a = record { answer = andThen a (refused 201 0); written = 0; buffer = before }
+  refusal a = record { answer = andThen a (refused 201 0); size = 0; buffer = before }
 
-  outcome : told r after ≡ refusal (trayAnswer header tray)
+  outcome : building (rulesOf s) header tray before ≡ refusal (trayAnswer header tray)
   unfolding buildable andThen
-  outcome = h ∙ go (trayAnswer header tray) refl
+  outcome = go (trayAnswer header tray) refl
     where
       go : (a : Said) → trayAnswer header tray ≡ a → building (rulesOf s) header tray before ≡ refusal a
       go (refused n place) e = building-stays (rulesOf s) header tray before (rw e refl)
@@ -38,27 +39,36 @@ module _ (s : Session) (header tray before : List ℕ) (r : Output) (after : Lis
           let t = sound-of header tray e in
           building-stays (rulesOf s) header tray before (too-long header tray before e (omega (arith, build-length header tray (t .0) (t .1 .whole), t .1 .whole)))
 
-  -- the lengths at 0, then the first bad record, else 201
-  -- (not so with 201 for a long tray whatever is in it, or with 206 for want of room)
-  pub long-answer : told r after .answer
+  in-order : building (rulesOf s) header tray before .answer
       ≡ andThen (require (eqb (length header) 94 && eqb (length tray % 96) 0) 207 0) (andThen (trayFault 0 (trayRecords tray)) (refused 201 0))
   unfolding trayAnswer
-  long-answer =
+  in-order =
       ap (λ (o : Outcome). o .answer) outcome
       ∙ and-then-assoc (require (eqb (length header) 94 && eqb (length tray % 96) 0) 207 0) (trayFault 0 (trayRecords tray)) (refused 201 0)
 
-  -- (not so with a desk that writes the records as they come, or one that blanks the buffer)
-  pub long-stays : after ≡ before
-  long-stays = go r outcome
-    where
-      go : (x : Output) → told x after ≡ refusal (trayAnswer header tray) → after ≡ before
-      go (Accepted n) e = ap (λ (o : Outcome). o .buffer) e
-      go (Refused fault place) e = ap (λ (o : Outcome). o .buffer) e
-
-  -- told by what is known after its pieces, the answer is that of building from the whole
-  pub long-seen : (p : Pieces) → Seen p tray → (a : Answer)
-      → said a ≡ andThen (require (eqb (length header) 94 && eqb (p .left) 0) 207 0) (andThen (said (p .faults)) (refused 201 0))
-      → said a ≡ told r after .answer
+  -- told by what is known after its pieces, the answer is that of building from the whole, whatever the session and the buffer
+  -- (not so with a look that takes a tray without end for one that has ended)
+  pub long-seen : (p : Pieces) → Seen p tray → (a : Answer) → Tells p header (Answered a) → said a ≡ building (rulesOf s) header tray before .answer
   long-seen p seen a e =
-      e
-      ∙ rw (seen .0, seen .2) (sym long-answer)
+      let w = seen .whole (e .0) in
+      e .1
+      ∙ rw (w .faults, w .left) (sym in-order)
+
+  module _ (r : Output) (after : List ℕ) (h : Builds s header tray before r after) where
+    -- the lengths at 0, then the first bad record, else 201
+    -- (not so with 201 for a long tray whatever is in it, or with 206 for want of room)
+    pub long-answer : told r after .answer
+        ≡ andThen (require (eqb (length header) 94 && eqb (length tray % 96) 0) 207 0) (andThen (trayFault 0 (trayRecords tray)) (refused 201 0))
+    long-answer = ap (λ (o : Outcome). o .answer) h ∙ in-order
+
+    -- (not so with a desk that writes the records as they come, or one that blanks the buffer)
+    pub long-stays : after ≡ before
+    long-stays = go r (h ∙ outcome)
+      where
+        go : (x : Output) → told x after ≡ refusal (trayAnswer header tray) → after ≡ before
+        go (Accepted n) e = ap (λ (o : Outcome). o .buffer) e
+        go (Refused fault place) e = ap (λ (o : Outcome). o .buffer) e
+
+-- a tray that is told to have no end has more than 2^60 records
+pub long-endless : (header tray : List ℕ) (p : Pieces) → Seen p tray → Tells p header Endless → mostSeen < length tray / 96
+long-endless header tray p seen e = seen .endless e

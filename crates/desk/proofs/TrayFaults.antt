@@ -18,7 +18,7 @@ use Rattle.tray.specs.Trays.{trayRecordAt}
 use Rattle.tray.proofs.Places.{sound-of}
 use Rattle.tray.proofs.Passing.{stops, goes-on, ends}
 use Rattle.build.proofs.Sizes.{builtRecords, build-length, buildable-as}
-use Rattle.desk.specs.Trays.{GoodAt, Misshapen, FirstBad, TrayBad}
+use Rattle.desk.specs.Trays.{GoodAt, Misshapen, FirstBad, TrayBad, NotBuildable}
 
 -- ---- record by record
 
@@ -99,13 +99,6 @@ module _ (header tray : List ℕ) where
 
 -- ---- then the length and the room
 
--- 207, 201 and 206, and no other number
-abbrev pub Refuses : List ℕ → List ℕ → List ℕ → ℕ → ℕ → Type 0
-Refuses header tray before n place =
-    ((n ≡ 207) × TrayBad header tray place)
-    ⊎ ((n ≡ 201) × (trayAnswer header tray ≡ accepted) × (940000 < length (build header tray)) × (place ≡ 0))
-    ⊎ ((n ≡ 206) × (trayAnswer header tray ≡ accepted) × (length (build header tray) ≤ 940000) × (length before < length (build header tray)) × (place ≡ 0))
-
 module _ (header tray before : List ℕ) where
   size : trayAnswer header tray ≡ accepted → length (build header tray) ≡ builtRecords tray * 94
   size g = let s = sound-of header tray g in build-length header tray (s .0) (s .1 .whole)
@@ -125,7 +118,15 @@ module _ (header tray before : List ℕ) where
       sym (buildable-as header tray before)
       ∙ rw (g, le-leb (builtRecords tray) 10000 (omega (arith, size g)), lt-leb (builtRecords tray * 94) (length before) (omega (arith, size g))) refl
 
-  pub refuses : {n place : ℕ} → buildable header tray before ≡ refused n place → Refuses header tray before n place
+  -- a tray that 207 does not refuse, whose file is neither too long nor without room, is built
+  pub taken : trayAnswer header tray ≡ accepted → length (build header tray) ≤ 940000 → length (build header tray) ≤ length before
+      → buildable header tray before ≡ accepted
+  unfolding andThen require
+  taken g l m =
+      sym (buildable-as header tray before)
+      ∙ rw (g, le-leb (builtRecords tray) 10000 (omega (arith, size g)), le-leb (builtRecords tray * 94) (length before) (omega (arith, size g))) refl
+
+  pub refuses : {n place : ℕ} → buildable header tray before ≡ refused n place → NotBuildable header tray before n place
   refuses {n} {place} h = go (first-refusal (trayAnswer header tray) (andThen long room) (buildable-as header tray before ∙ h))
     where
       long : Said
@@ -134,7 +135,7 @@ module _ (header tray before : List ℕ) where
       room : Said
       room = require (leb (builtRecords tray * 94) (length before)) 206 0
 
-      later : trayAnswer header tray ≡ accepted → (long ≡ refused n place) ⊎ ((long ≡ accepted) × (room ≡ refused n place)) → Refuses header tray before n place
+      later : trayAnswer header tray ≡ accepted → (long ≡ refused n place) ⊎ ((long ≡ accepted) × (room ≡ refused n place)) → NotBuildable header tray before n place
       later g (inl x) =
           let q = require-refused (leb (builtRecords tray) 10000) 201 0 x in
           inr (inl (q .1, g, omega (arith, size g, leb-false (builtRecords tray) 10000 (q .0)), q .2))
@@ -143,6 +144,6 @@ module _ (header tray before : List ℕ) where
           let q = require-refused (leb (builtRecords tray * 94) (length before)) 206 0 (x .1) in
           inr (inr (q .1, g, omega (arith, size g, l), omega (arith, size g, leb-false (builtRecords tray * 94) (length before) (q .0)), q .2))
 
-      go : (trayAnswer header tray ≡ refused n place) ⊎ ((trayAnswer header tray ≡ accepted) × (andThen long room ≡ refused n place)) → Refuses header tray before n place
+      go : (trayAnswer header tray ≡ refused n place) ⊎ ((trayAnswer header tray ≡ accepted) × (andThen long room ≡ refused n place)) → NotBuildable header tray before n place
       go (inl x) = inl (tray-named header tray x)
       go (inr x) = later (x .0) (first-refusal long room (x .1))

@@ -21,7 +21,7 @@ use Rattle.desk.proofs.Lent.{answers, asked, held}
 -- ---- stripping
 
 module _ (rules : Rules) (file buffer : List ℕ) where
-  pub not-stripped : {n place : ℕ} → reading rules file ≡ refused n place → record { answer = refused n place; written = 0; buffer = buffer } ≡ stripping rules file buffer
+  pub not-stripped : {n place : ℕ} → reading rules file ≡ refused n place → record { answer = refused n place; size = 0; buffer = buffer } ≡ stripping rules file buffer
   unfolding stripping andThen written
   not-stripped h = rw h refl
 
@@ -74,8 +74,8 @@ module _ (header tray before : List ℕ) (x : Output) (after : List ℕ)
     -- refused by it, that part is all spaces
     pub not-read : (rules : Rules) {m place : ℕ} (part : List ℕ) → reading rules (midOf 0 (n - 0) after) ≡ refused m place
         → part ≡ blanks (length (midOf 0 (n - 0) after))
-        → record { answer = refused m place; written = 0; buffer = putMid 0 (n - 0) after part } ≡ building rules header tray before
+        → record { answer = refused m place; size = 0; buffer = putMid 0 (n - 0) after part } ≡ building rules header tray before
     not-read rules {m} {place} part e b =
         let r : reading rules (build header tray) ≡ refused m place = ap (reading rules) (sym lent-part) ∙ e in
-        ap (λ (l : List ℕ). record { answer = refused m place; written = 0; buffer = l }) (ap (putMid 0 (n - 0) after) b ∙ spaced)
+        ap (λ (l : List ℕ). record { answer = refused m place; size = 0; buffer = l }) (ap (putMid 0 (n - 0) after) b ∙ spaced)
         ∙ sym (building-spaces rules header tray before tested r)

@@ -1,7 +1,8 @@
 -- The words in which the demands on the desk's extracts are stated.
 use Prim.Native.Nat.{ℕ, _≤_}
-use mathlib.Core.Bool.{false}
+use mathlib.Core.Bool.{true, false, _&&_}
 use mathlib.Core.List.{List}
+use mathlib.Core.Logic.{_⊎_}
 use mathlib.Core.Path.{_≡_}
 use lib.Dec.{T}
 use lib.ListN.{length, getD}
@@ -13,6 +14,7 @@ use Rattle.paper.specs.Extract.{extract}
 use Rattle.paper.specs.Buffers.{told, roomFor, entityGiven, extracting}
 use Rattle.desk.specs.declared.Session.{Session}
 use Rattle.desk.specs.Standing.{rulesOf}
+use Rattle.desk.specs.Lent.{FaultyOrShort}
 
 -- what a call of extract says: of a session, an entity, a file and a lent buffer, the answer and the buffer after it
 abbrev pub Extracts : Session → ℕ → List ℕ → List ℕ → Output → List ℕ → Type 0
@@ -28,3 +30,9 @@ pub record Extractable (s : Session) (e : ℕ) (file before : List ℕ) : Type 0
   pub listed : T (getD (s .roster) e false)
   pub reads : reading (rulesOf s) file ≡ accepted
   pub room : length (extract (s .currency) e file) ≤ length before
+
+-- the first fault of a call, its number and place: "208, then the reading's refusals, then 206"
+abbrev pub ExtractFaulty : Session → ℕ → List ℕ → List ℕ → ℕ → ℕ → Type 0
+ExtractFaulty s e file before n place =
+    (((within 1 499 e && getD (s .roster) e false) ≡ false) × (n ≡ 208) × (place ≡ 0))
+    ⊎ (((within 1 499 e && getD (s .roster) e false) ≡ true) × FaultyOrShort (rulesOf s) file (extract (s .currency) e file) before n place)

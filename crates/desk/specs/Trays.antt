@@ -11,9 +11,11 @@ use Rattle.paper.specs.Answers.{Said, accepted, andThen}
 use Rattle.paper.specs.Reading.{reading}
 use Rattle.paper.specs.Writing.{blanks}
 use Rattle.paper.specs.Trays.{trayRecordGood, build, strip}
-use Rattle.paper.specs.Buffers.{told, roomFor, buildable, building, stripping}
+use Rattle.paper.specs.Buffers.{told, roomFor, trayAnswer, buildable, building, stripping}
+use Rattle.paper.specs.Demands.{Faulty}
 use Rattle.desk.specs.declared.Session.{Session}
 use Rattle.desk.specs.Standing.{rulesOf}
+use Rattle.desk.specs.Lent.{FaultyOrShort}
 
 -- what a call of build says: of a session, a header body, a tray and a lent buffer, the answer and the buffer after it
 abbrev pub Builds : Session → List ℕ → List ℕ → List ℕ → Output → List ℕ → Type 0
@@ -53,6 +55,22 @@ pub record FirstBad (header tray : List ℕ) (place : ℕ) : Type 0 where
 abbrev pub TrayBad : List ℕ → List ℕ → ℕ → Type 0
 TrayBad header tray place = (Misshapen header tray × (place ≡ 0)) ⊎ FirstBad header tray place
 
+-- the refusals before the reading: 207; then 201 and 206 for a tray that 207 does not refuse, by the length of the file that would be built
+abbrev pub NotBuildable : List ℕ → List ℕ → List ℕ → ℕ → ℕ → Type 0
+NotBuildable header tray before n place =
+    ((n ≡ 207) × TrayBad header tray place)
+    ⊎ ((n ≡ 201) × (trayAnswer header tray ≡ accepted) × (940000 < length (build header tray)) × (place ≡ 0))
+    ⊎ ((n ≡ 206) × (trayAnswer header tray ≡ accepted) × (length (build header tray) ≤ 940000) × (length before < length (build header tray)) × (place ≡ 0))
+
+-- the first fault of building, its number and place: one of those; else that of the file built, by the reading
+abbrev pub BuildFaulty : Session → List ℕ → List ℕ → List ℕ → ℕ → ℕ → Type 0
+BuildFaulty s header tray before n place =
+    NotBuildable header tray before n place
+    ⊎ ((trayAnswer header tray ≡ accepted)
+    × (length (build header tray) ≤ 940000)
+    × (length (build header tray) ≤ length before)
+    × Faulty (rulesOf s) (build header tray) n place)
+
 -- the bytes that a file would have taken are all spaces, and the rest of the buffer stays
 pub record Spaced (file before after : List ℕ) : Type 0 where
   pub spaces : take (length file) after ≡ blanks (length file)
@@ -70,3 +88,7 @@ answerToStrip s file before = andThen (reading (rulesOf s) file) (roomFor (strip
 pub record Strippable (s : Session) (file before : List ℕ) : Type 0 where
   pub reads : reading (rulesOf s) file ≡ accepted
   pub room : length (strip file) ≤ length before
+
+-- the first fault of stripping: the reading's, then 206
+abbrev pub StripFaulty : Session → List ℕ → List ℕ → ℕ → ℕ → Type 0
+StripFaulty s file before n place = FaultyOrShort (rulesOf s) file (strip file) before n place

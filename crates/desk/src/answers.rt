@@ -2,13 +2,13 @@
 ghost use mathlib.Core.Path.{_≡_};
 ghost use mathlib.Core.Bool.{not};
 ghost use Rattle.paper.specs.Answers.{said, require};
-ghost use Rattle.reading.specs.Said.{said as saidOf};
+ghost use Rattle.reading.specs.Said.{readingSays};
 use paper::answer::Answer;
 use paper::answer::Fault;
 use reading::Reading;
 
 pub fn of_reading(reading: Reading) -> Answer
-    ensures { λ r. ⌜ said r ≡ saidOf reading ⌝ }
+    ensures { λ r. ⌜ said r ≡ readingSays reading ⌝ }
 {
     match reading {
         Reading::Accepted(_) => Answer::Accepted,

@@ -16,6 +16,7 @@ use paper::answer::Fault;
 use paper::answer::Output;
 use paper::ledger::Cell;
 use paper::rules::Currency;
+use paper::rules::Rules;
 use paper::rules::Terms;
 use reading::Reading;
 use state::State;
@@ -89,9 +90,11 @@ impl Session {
     // Bytes of a record.
     pub const RECORD: usize = State::RECORD;
     // Bytes of a file, at most.
-    pub const FILE_LIMIT: usize = Reading::LONGEST as usize;
+    pub const FILE_LIMIT: usize = Reading::LONGEST;
     // Entity numbers are below this.
-    pub const ROSTER: usize = 500;
+    pub const ROSTER: usize = Rules::ROSTER;
+    // The highest entity number.
+    pub const LAST: u64 = Session::ROSTER as u64 - 1;
     // 000101
     pub const FIRST_DATE: u64 = 101;
 

@@ -6,15 +6,13 @@ ghost use Rattle.paper.specs.Fields.{every, within};
 use crate::Session;
 use field::number;
 
-// Entity numbers, from and to.
+// The lowest entity number.
 const FIRST: u64 = 1;
-
-const LAST: u64 = Session::ROSTER as u64 - 1;
 
 pub fn is_entity(n: u64) -> bool
     ensures { λ r. ⌜ r ≡ within 1 499 n ⌝ }
 {
-    number::within(FIRST, LAST, n)
+    number::within(FIRST, Session::LAST, n)
 }
 
 // An entity number that is on the roster.

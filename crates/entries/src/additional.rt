@@ -2,7 +2,7 @@
 ghost use mathlib.Core.Path.{_≡_};
 ghost use lib.ListN.{length};
 ghost use Rattle.paper.specs.Records.{additional99, additional05, additional};
-ghost use Rattle.record.specs.Verdicts.{told};
+ghost use Rattle.record.specs.Verdicts.{checkOf};
 use field::kind;
 use field::number;
 use field::text;
@@ -13,7 +13,7 @@ use record::verdict::Verdict;
 pub fn judge99(individual: &[u8], rec: &[u8]) -> Verdict
     requires { ⌜ length (now individual) ≡ 94 ⌝ }
     requires { ⌜ length (now rec) ≡ 94 ⌝ }
-    ensures { λ r. ⌜ told r ≡ additional99 (now (individual .entry)) (now (rec .entry)) ⌝ }
+    ensures { λ r. ⌜ checkOf r ≡ additional99 (now (individual .entry)) (now (rec .entry)) ⌝ }
 {
     let motive = text::reads(rec, 4, 4, b"R") & number::digits(rec, 5, 6);
     Verdict::Right
@@ -32,7 +32,7 @@ pub fn judge99(individual: &[u8], rec: &[u8]) -> Verdict
 pub fn judge05(individual: &[u8], rec: &[u8]) -> Verdict
     requires { ⌜ length (now individual) ≡ 94 ⌝ }
     requires { ⌜ length (now rec) ≡ 94 ⌝ }
-    ensures { λ r. ⌜ told r ≡ additional05 (now (individual .entry)) (now (rec .entry)) ⌝ }
+    ensures { λ r. ⌜ checkOf r ≡ additional05 (now (individual .entry)) (now (rec .entry)) ⌝ }
 {
     Verdict::Right
         .need(text::reads(rec, 2, 3, b"05"), Fault::Additional)
@@ -46,7 +46,7 @@ pub fn judge05(individual: &[u8], rec: &[u8]) -> Verdict
 pub fn judge(individual: &[u8], rec: &[u8]) -> Verdict
     requires { ⌜ length (now individual) ≡ 94 ⌝ }
     requires { ⌜ length (now rec) ≡ 94 ⌝ }
-    ensures { λ r. ⌜ told r ≡ additional (now (individual .entry)) (now (rec .entry)) ⌝ }
+    ensures { λ r. ⌜ checkOf r ≡ additional (now (individual .entry)) (now (rec .entry)) ⌝ }
 {
     if kind::rejects(kind::code(individual)) {
         return judge99(individual, rec);

@@ -3,11 +3,12 @@ ghost use mathlib.Core.Path.{_≡_};
 ghost use Prim.Native.Nat.{_<_, _^_};
 ghost use lib.ListN.{length};
 ghost use Rattle.paper.specs.Records.{amountOf, accountGood, informationGood, flagGood, counterGood, transfer, individual};
-ghost use Rattle.record.specs.Verdicts.{told, under};
+ghost use Rattle.record.specs.Verdicts.{checkOf, under};
 use field::kind;
 use field::number;
 use field::text;
 use paper::answer::Fault;
+use paper::rules::Rules;
 use paper::rules::Terms;
 use record::member;
 use record::verdict::Verdict;
@@ -52,9 +53,9 @@ pub fn counter_good(header: &[u8], previous: u64, rec: &[u8]) -> bool
 }
 
 // Positions 2 to 54: the code, whereto, how much and for what.
-pub fn transfer(terms: Terms, roster: &[bool; 500], rec: &[u8]) -> Verdict
+pub fn transfer(terms: Terms, roster: &[bool; Rules::ROSTER], rec: &[u8]) -> Verdict
     requires { ⌜ length (now rec) ≡ 94 ⌝ }
-    ensures { λ r. ⌜ told r ≡ transfer (under terms (now (roster .entry))) (now (rec .entry)) ⌝ }
+    ensures { λ r. ⌜ checkOf r ≡ transfer (under terms (now (roster .entry))) (now (rec .entry)) ⌝ }
 {
     let currency = terms.currency;
     Verdict::Right
@@ -71,14 +72,14 @@ pub fn transfer(terms: Terms, roster: &[bool; 500], rec: &[u8]) -> Verdict
 
 pub fn judge(
     terms: Terms,
-    roster: &[bool; 500],
+    roster: &[bool; Rules::ROSTER],
     header: &[u8],
     previous: u64,
     rec: &[u8],
 ) -> Verdict
     requires { ⌜ length (now header) ≡ 94 ⌝ }
     requires { ⌜ length (now rec) ≡ 94 ⌝ }
-    ensures { λ r. ⌜ told r ≡ individual (under terms (now (roster .entry))) (now (header .entry)) previous (now (rec .entry)) ⌝ }
+    ensures { λ r. ⌜ checkOf r ≡ individual (under terms (now (roster .entry))) (now (header .entry)) previous (now (rec .entry)) ⌝ }
 {
     let flagged = text::reads(rec, 79, 79, b"0") | text::reads(rec, 79, 79, b"1");
     transfer(terms, roster, rec)

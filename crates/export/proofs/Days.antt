@@ -10,14 +10,20 @@ use lib.Seq.{take-nil, drop-cons}
 use Rattle.paper.specs.Sessions.{Session, Reply, presenting}
 use Rattle.export.specs.declared.Spoken.{Spoken}
 use Rattle.export.specs.Spoken.{spokenOf}
-use Rattle.export.specs.Day.{Turns, between, handed, turn, turnsFrom}
+use Rattle.export.specs.Day.{Turns, between, answerWritten, turn, turnsFrom}
 
 -- ---- the bytes of a file
 
-take-within : (n : ℕ) (l : List ℕ) → take (min n (length l)) l ≡ take n l
-take-within zero l = rw zero-min
-take-within (suc n) [] = rw min-zero
-take-within (suc n) (x ∷ l) = rw suc-min-suc (ap (λ (r : List ℕ). x ∷ r) (take-within n l))
+module _ {A : Type 0} where
+  pub take-within : (n : ℕ) (l : List A) → take (min n (length l)) l ≡ take n l
+  take-within zero l = rw zero-min
+  take-within (suc n) [] = rw min-zero
+  take-within (suc n) (x ∷ l) = rw suc-min-suc (ap (λ (r : List A). x ∷ r) (take-within n l))
+
+  pub drop-within : (n : ℕ) (l : List A) → drop (min n (length l)) l ≡ drop n l
+  drop-within zero l = rw zero-min
+  drop-within (suc n) [] = rw min-zero
+  drop-within (suc n) (x ∷ l) = rw suc-min-suc (drop-within n l)
 
 -- bounds within the bytes give the same part
 pub part-within : (from end : ℕ) (l : List ℕ)
@@ -31,13 +37,13 @@ part-within (suc from) (suc end) (x ∷ l) = simp (suc-min-suc, suc-sub-suc) (pa
 -- ---- answers handed over
 
 module _ (i : ℕ) (spoken : Spoken) (answers : List ℕ) where
-  pub handed-both : i < length answers / 2 → set (set answers (2 * i) (spoken .number)) (2 * i + 1) (spoken .place) ≡ handed i spoken answers
-  unfolding handed
-  handed-both h = rw (lt-ltb i (length answers / 2) h)
+  pub both-written : i < length answers / 2 → set (set answers (2 * i) (spoken .number)) (2 * i + 1) (spoken .place) ≡ answerWritten i spoken answers
+  unfolding answerWritten
+  both-written h = rw (lt-ltb i (length answers / 2) h)
 
-  pub handed-none : length answers / 2 ≤ i → answers ≡ handed i spoken answers
-  unfolding handed
-  handed-none h = rw (le-ltb i (length answers / 2) h)
+  pub none-written : length answers / 2 ≤ i → answers ≡ answerWritten i spoken answers
+  unfolding answerWritten
+  none-written h = rw (le-ltb i (length answers / 2) h)
 
 -- ---- the turns
 
@@ -46,7 +52,7 @@ turns session answers = record { session = session; answers = answers }
 
 module _ (i from : ℕ) (ends files : List ℕ) where
   pub one-turn : (s : Session) (file answers answers′ : List ℕ) (reply : Reply) (spoken : Spoken) → i < length ends
-      → file ≡ between from (getD ends i 0) files → reply ≡ presenting s file → spoken ≡ spokenOf 0 (reply .answer) → answers′ ≡ handed i spoken answers
+      → file ≡ between from (getD ends i 0) files → reply ≡ presenting s file → spoken ≡ spokenOf 0 (reply .answer) → answers′ ≡ answerWritten i spoken answers
       → turnsFrom i from (drop i ends) files (turns s answers) ≡ turnsFrom (i + 1) (getD ends i 0) (drop (i + 1) ends) files (turns (reply .session) answers′)
   unfolding turnsFrom turn
   one-turn s file answers answers′ reply spoken l f r p a = rw (drop-cons ends i 0 l, ← add-one i, a, p, r, f)

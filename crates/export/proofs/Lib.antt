@@ -1,4 +1,4 @@
 pub mod Once
 pub mod Handed
 pub mod Days
-pub mod Cells
+pub mod FigureLaws

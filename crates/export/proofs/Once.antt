@@ -1,16 +1,27 @@
--- The two numbers that are handed over fix the reading's answer: no refusal has number 0.
+-- One outcome only. The two numbers that are handed over fix the reading's answer, since no refusal has number 0; a day's contract fixes its answer and
+-- both buffers, and the figures fix every cell.
 use Prim.Native.Nat.{ℕ}
+use Prim.Native.Nat.{_+_, _*_, _<_}
+use mathlib.Core.List.{List}
 use mathlib.Core.Path.{_≡_, sym, ap, ap₂, _∙_}
 use native.Mathlib.Omega.{arith}
+use lib.IntN.{ℤ, pos, natAbs}
+use lib.ListN.{length, getD}
+use lib.Seq.{ext-getD}
+use Rattle.paper.specs.declared.ledger.Cell.{Cell}
+use Rattle.paper.specs.declared.rules.Currency as rules
+use Rattle.paper.specs.Sessions.{zeroCell}
 use Rattle.paper.specs.declared.answer.Fault.{Fault}
 use Rattle.paper.specs.declared.answer.Fault.the-variants.{Length, Format, Amount, Additional, Counter, Date, Reserved, Account, Reference, Information, Currency, Roster, Room, Tray, Entity, Identifier}
 use Rattle.paper.specs.Answers.{numberOf}
 use Rattle.paper.proofs.Numbers.{own-number}
 use Rattle.reading.specs.declared.Reading.{Reading}
 use Rattle.reading.specs.declared.Reading.the-variants.{Accepted, Refused}
-use Rattle.reading.specs.Said.{said, Carries}
+use Rattle.reading.specs.Said.{readingSays, Carries}
 use Rattle.export.specs.declared.Spoken.{Spoken}
 use Rattle.export.specs.Spoken.{spokenOf}
+use Rattle.export.specs.Day.{Day, namedFigures, figureOf, figuresOf, dayOf}
+use Rattle.export.proofs.FigureLaws.{how-many, figures-length, figure-at}
 
 not-zero : (f : Fault) → 0 ≡ numberOf f → ⊥
 not-zero Length h = omega arith
@@ -30,10 +41,29 @@ not-zero Tray h = omega arith
 not-zero Entity h = omega arith
 not-zero Identifier h = omega arith
 
-pub spoken-once : (n : ℕ) (a b : Reading) → Carries n a → Carries n b → spokenOf n (said a) ≡ spokenOf n (said b) → a ≡ b
-unfolding spokenOf said Carries
+pub spoken-once : (n : ℕ) (a b : Reading) → Carries n a → Carries n b → spokenOf n (readingSays a) ≡ spokenOf n (readingSays b) → a ≡ b
+unfolding spokenOf readingSays Carries
 spoken-once n (Accepted k) (Accepted l) p q h = ap Accepted (p ∙ sym q)
 spoken-once n (Accepted k) (Refused g l) p q h = absurd (not-zero g (ap (λ (s : Spoken). s .number) h))
 spoken-once n (Refused f k) (Accepted l) p q h = absurd (not-zero f (sym (ap (λ (s : Spoken). s .number) h)))
 spoken-once n (Refused f k) (Refused g l) p q h =
     ap₂ Refused (own-number f g (ap (λ (s : Spoken). s .number) h)) (ap (λ (s : Spoken). s .place) h)
+
+pub day-once : (date : ℕ) (currency : rules.Currency) (entities ends files answers : List ℕ) (figures : List ℤ) (a b : Day)
+    → dayOf date currency entities ends files answers figures ≡ a → dayOf date currency entities ends files answers figures ≡ b → a ≡ b
+day-once date currency entities ends files answers figures a b h k = sym h ∙ k
+
+cell-once : (a b : Cell) → ((f : ℕ) → f < length namedFigures → figureOf f a ≡ figureOf f b) → a ≡ b
+unfolding figureOf namedFigures
+cell-once a b same = λ i. record {
+  position = same 0 (omega arith) i;
+  sent = natAbs (same 1 (omega arith) i);
+  received = natAbs (same 2 (omega arith) i);
+}
+
+pub cells-once : (a b : List Cell) → figuresOf a ≡ figuresOf b → a ≡ b
+cells-once a b h =
+    let long : length a ≡ length b = omega (arith, rw how-many at (figures-length a), rw how-many at (figures-length b), ap length h) in
+    ext-getD zeroCell a b long
+    (λ e l. cell-once (getD a e zeroCell) (getD b e zeroCell)
+    (λ f m. rw (figure-at b f e m (omega arith)) at (rw (h, long) at (sym (figure-at a f e m l)))))

@@ -16,4 +16,4 @@ pub record Filled : Type 0 where
   pub buffer : List ℕ
 
 unfoldable pub filledOf : Outcome → Filled
-filledOf o = record { spoken = spokenOf (o .written) (o .answer); buffer = o .buffer }
+filledOf o = record { spoken = spokenOf (o .size) (o .answer); buffer = o .buffer }

@@ -1,33 +1,23 @@
 // A whole day: an opening, and files presented in turn.
 ghost use mathlib.Core.Path.{_≡_};
-ghost use mathlib.Core.List.{[], map};
-ghost use Prim.Native.Nat.{min};
-ghost use lib.ListN.{length};
+ghost use mathlib.Core.List.{[]};
 ghost use Rattle.paper.specs.Listing.{currencyIf, listing};
 ghost use Rattle.listing.specs.Room.{Written};
 ghost use Rattle.desk.specs.Standing.{standing};
 ghost use Rattle.desk.specs.Calls.{Reachable};
-ghost use Rattle.export.specs.Day.{between, handed, turnsFrom, turnsOf, dayOf};
+ghost use Rattle.export.specs.Day.{between, answerWritten, turnsFrom, turnsOf, dayOf};
 use crate::Spoken;
 use crate::currency;
+use crate::figures::hand_figures;
+use crate::least;
 use crate::speak;
 use desk::Reply;
 use desk::Session;
-use listing::lines::Listing;
+use listing::Listing;
 use paper::answer::Answer;
-use paper::ledger::Cell;
 
 // Opening and presenting say no number of records.
 const NO_RECORDS: usize = 0;
-
-fn least(a: usize, b: usize) -> usize
-    ensures { λ r. ⌜ r ≡ min a b ⌝ }
-{
-    if a < b {
-        return a;
-    }
-    b
-}
 
 // The bytes from the end of the file before up to an end, as far as there are any.
 fn between(from: usize, end: usize, files: &[u8]) -> &[u8]
@@ -40,7 +30,7 @@ fn between(from: usize, end: usize, files: &[u8]) -> &[u8]
 
 // Number and place of an answer, where there is room for both.
 fn hand_answer(i: usize, spoken: Spoken, answers: &mut [u64])
-    ensures { λ _. ⌜ now (answers .exit) ≡ handed i spoken (now (answers .entry)) ⌝ }
+    ensures { λ _. ⌜ now (answers .exit) ≡ answerWritten i spoken (now (answers .entry)) ⌝ }
 {
     if i < answers.len() / 2 {
         answers[2 * i] = spoken.number;
@@ -69,26 +59,8 @@ fn present_all(session: Session, ends: &[u64], files: &[u8], answers: &mut [u64]
     after
 }
 
-// What each entity number holds, figure by figure.
-fn hand_cells(cells: [Cell; 500], positions: &mut [i64], sent: &mut [u64], received: &mut [u64])
-    requires { ⌜ (length (now positions) ≡ 500) × (length (now sent) ≡ 500) × (length (now received) ≡ 500) ⌝ }
-    ensures { λ _. ⌜ (now (positions .exit) ≡ map (λ c. c .position) cells)
-        × (now (sent .exit) ≡ map (λ c. c .sent) cells)
-        × (now (received .exit) ≡ map (λ c. c .received) cells) ⌝ }
-{
-    let mut e: usize = 0;
-    while e < Session::ROSTER {
-        let c = cells[e];
-        let position = c.position;
-        positions[e] = position;
-        sent[e] = c.sent;
-        received[e] = c.received;
-        e += 1;
-    }
-}
-
 // File i is the bytes of `files` from the end of the one before up to ends[i]. The opening's answer comes back, the others stand in
-// `answers`, two numbers each, and the cells at the end by entity number.
+// `answers`, two numbers each, and the figures of the cells at the end in `figures`, at the indices of `Figure`.
 #[no_mangle]
 pub extern "C" fn shaydhoqel_day(
     date: u64,
@@ -97,22 +69,15 @@ pub extern "C" fn shaydhoqel_day(
     ends: &[u64],
     files: &[u8],
     answers: &mut [u64],
-    positions: &mut [i64; 500],
-    sent: &mut [u64; 500],
-    received: &mut [u64; 500],
+    figures: &mut [i64],
 ) -> Spoken
-    ensures { λ r. ⌜ dayOf date (currencyIf dollars) (now (entities .entry)) (now (ends .entry)) (now (files .entry)) (now (answers .entry)) ≡ record {
-      opened = r;
-      answers = now (answers .exit);
-      positions = now (positions .exit);
-      sent = now (sent .exit);
-      received = now (received .exit);
-    } ⌝ }
+    ensures { λ r. ⌜ dayOf date (currencyIf dollars) (now (entities .entry)) (now (ends .entry)) (now (files .entry)) (now (answers .entry)) (now (figures .entry))
+        ≡ record { opened = r; answers = now (answers .exit); figures = now (figures .exit) } ⌝ }
 {
     let opened = Session::open(date, currency(dollars), entities);
     let session = opened.session;
     let closed = present_all(session, ends, files, answers);
-    hand_cells(closed.cells(), positions, sent, received);
+    hand_figures(closed.cells(), figures);
     let answer = opened.answer;
     speak(NO_RECORDS, answer)
 }

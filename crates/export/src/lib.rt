@@ -1,7 +1,7 @@
 // The library for programs in Rust and C: functions on numbers and byte slices.
 ghost use mathlib.Core.Path.{_≡_};
 ghost use mathlib.Core.List.{List};
-ghost use Prim.Native.Nat.{ℕ, _/_};
+ghost use Prim.Native.Nat.{ℕ, _/_, min};
 ghost use lib.ListN.{length};
 ghost use Rattle.paper.specs.Answers.{said};
 ghost use Rattle.paper.specs.Reading.{reading};
@@ -9,7 +9,8 @@ ghost use Rattle.paper.specs.Buffers.{told};
 ghost use Rattle.paper.specs.Listing.{currencyIf, positionsOf};
 ghost use Rattle.listing.specs.Room.{Written};
 ghost use Rattle.export.specs.Spoken.{spokenOf, filledOf};
-use listing::lines::Listing;
+use desk::Session;
+use listing::Listing;
 use paper::answer::Answer;
 use paper::answer::Output;
 use paper::rules::Currency;
@@ -18,6 +19,7 @@ use reading::Reading;
 
 pub mod day;
 pub mod extract;
+mod figures;
 pub mod tray;
 
 // An answer in the paper's numbers: 0 and the number of records, or the refusal number and its place.
@@ -25,6 +27,29 @@ pub mod tray;
 pub struct Spoken {
     pub number: u64,
     pub place: u64,
+}
+
+// Figure f of entity e stands at index f * 500 + e: a later figure is appended, and no index moves.
+pub struct Figure;
+
+impl Figure {
+    // The position in cents.
+    pub const POSITION: usize = 0;
+    // The individual records sent.
+    pub const SENT: usize = 1;
+    // The individual records received.
+    pub const RECEIVED: usize = 2;
+    // How many figures there are.
+    pub const FIGURES: usize = 3;
+}
+
+fn least(a: usize, b: usize) -> usize
+    ensures { λ r. ⌜ r ≡ min a b ⌝ }
+{
+    if a < b {
+        return a;
+    }
+    b
 }
 
 fn currency(dollars: bool) -> Currency
@@ -66,7 +91,7 @@ fn speak_output(output: Output) -> Spoken
 pub extern "C" fn shaydhoqel_read(
     date: u64,
     dollars: bool,
-    roster: &[bool; 500],
+    roster: &[bool; Session::ROSTER],
     file: &[u8],
 ) -> Spoken
     ensures { λ r. ⌜ r ≡ spokenOf (length (now (file .entry)) / 94) (reading record { date = date; currency = currencyIf dollars; roster = now (roster .entry) } (now (file .entry))) ⌝ }

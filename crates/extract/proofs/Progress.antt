@@ -19,7 +19,8 @@ use Rattle.state.specs.Bounds.{Below}
 use Rattle.state.specs.States.{recordAt}
 use Rattle.state.proofs.Bounds.{below-more, below-plus, below-zeros}
 use Rattle.writing.proofs.Laying.{Wrote, start, on, kept, part-laid, rest-laid}
-use Rattle.picking.specs.Places.{Read, Goes, chosen}
+use Rattle.picking.specs.Notes.{goesTo}
+use Rattle.picking.specs.Places.{Passed, Placed, chosen}
 use Rattle.batches.specs.Blocks.{ownOf, tallied, block}
 use Rattle.batches.proofs.Own.{own-fewer, tallied-below}
 use Rattle.batches.proofs.Blocks.{length-block}
@@ -27,6 +28,7 @@ use Rattle.extract.specs.Blocks.{blocksFrom, flat}
 use Rattle.extract.proofs.Pass.{picked-batches}
 use Rattle.extract.proofs.Sizes.{items-sized}
 use Rattle.picking.proofs.Chosen.{length-chosen}
+use Rattle.picking.proofs.Rising.{goes-few, goes-placed}
 use Rattle.extract.proofs.Rest.{blocksTo, blocks-fit, Next, next-batch, first-block}
 
 -- with the batches that are left from index i of the places on
@@ -43,11 +45,11 @@ pub record Progress (e : ℕ) (file places before after : List ℕ) (at number :
   pub inside : i ≤ length places
   pub below : Below (i * 10 ^ 10) closed
 
-pub begun : (e : ℕ) (file places before : List ℕ) → Read file → Goes e file places → 94 ≤ length before → Progress e file places before before 94 0 zeros 0
+pub begun : (e : ℕ) (file places before : List ℕ) → Passed file → places ≡ goesTo e file → 94 ≤ length before → Progress e file places before before 94 0 zeros 0
 begun e file places before r g h = record {
   rest = batchesTo e (batchesOf file);
   good = extract-good (r .rules) e file (r .accepts);
-  left = g .records ∙ picked-batches (r .rules) e file (r .accepts);
+  left = ap (chosen file) g ∙ picked-batches (r .rules) e file (r .accepts);
   text = [];
   wrote = start h;
   all = refl;
@@ -58,8 +60,11 @@ begun e file places before r g h = record {
   below = below-zeros 0;
 }
 
-pub goes-few : {e : ℕ} {file places : List ℕ} → Read file → Goes e file places → length places ≤ 10000
-goes-few {e} {file} {places} r g = omega (arith, g .most, accepted-facts (r .rules) file (r .accepts) .short)
+pub taken-few : (e : ℕ) (file : List ℕ) {places : List ℕ} → Passed file → places ≡ goesTo e file → length places ≤ 10000
+taken-few e file r g = rw g (omega (arith, goes-few e file, accepted-facts (r .rules) file (r .accepts) .short))
+
+pub taken-placed : (e : ℕ) (file : List ℕ) {places : List ℕ} → Passed file → places ≡ goesTo e file → Placed file places
+taken-placed e file r g = rw g (goes-placed e file (omega (arith, accepted-facts (r .rules) file (r .accepts) .long)))
 
 -- one batch further
 module _ (e : ℕ) (file places before after : List ℕ) (at number : ℕ) (closed : Tally) (i : ℕ) (p : Progress e file places before after at number closed i)
@@ -156,7 +161,7 @@ module _ (e : ℕ) (file places before after : List ℕ) (at number : ℕ) (clos
   end-room = omega (arith, kept (p .wrote) (omega (arith, p .wrote .next, ends-length)), p .wrote .next, ends-length)
 
   -- 10,000 records at most, since an extract is never longer than its file
-  pub end-few : Read file → at / 94 + 1 ≤ 10000
+  pub end-few : Passed file → at / 94 + 1 ≤ 10000
   end-few r = omega (arith, blocks-fit e file r, accepted-facts (r .rules) file (r .accepts) .short, ends-length, p .wrote .next, p .even)
 
   pub end-done : {control : List ℕ} → control ≡ fileControlOf (at / 94 + 1) number closed

@@ -17,7 +17,7 @@ use Rattle.paper.proofs.Lists.{joined-append}
 use Rattle.paper.proofs.Regrouping.{length-header}
 use Rattle.paper.proofs.Size.{extract-fits}
 use Rattle.state.specs.States.{recordAt}
-use Rattle.picking.specs.Places.{Read, chosen}
+use Rattle.picking.specs.Places.{Passed, chosen}
 use Rattle.batches.specs.Blocks.{ownOf, tallied, block}
 use Rattle.extract.specs.Blocks.{blocksFrom, flat}
 use Rattle.picking.proofs.Chosen.{chosen-drop}
@@ -28,22 +28,22 @@ abbrev pub blocksTo : ℕ → List ℕ → List ℕ
 blocksTo e file = joined (blocksFrom 1 0 zeros (batchesTo e (batchesOf file)))
 
 -- an extract is its file header and these
-pub header-blocks : (currency : Currency) (e : ℕ) (file : List ℕ) → Read file → extract currency e file ≡ headerFor currency e (take 94 file) ++ blocksTo e file
+pub header-blocks : (currency : Currency) (e : ℕ) (file : List ℕ) → Passed file → extract currency e file ≡ headerFor currency e (take 94 file) ++ blocksTo e file
 unfolding extract joined
 header-blocks currency e file r = closing-blocks (headerFor currency e (take 94 file)) (batchesTo e (batchesOf file)) (extract-good (r .rules) e file (r .accepts))
 
-pub header-length : (currency : Currency) (e : ℕ) (file : List ℕ) → Read file → length (headerFor currency e (take 94 file)) ≡ 94
+pub header-length : (currency : Currency) (e : ℕ) (file : List ℕ) → Passed file → length (headerFor currency e (take 94 file)) ≡ 94
 header-length currency e file r = length-header currency e (take 94 file) (length-take-le 94 file (omega (arith, accepted-facts (r .rules) file (r .accepts) .long)))
 
-pub extract-length : (currency : Currency) (e : ℕ) (file : List ℕ) → Read file → length (extract currency e file) ≡ 94 + length (blocksTo e file)
+pub extract-length : (currency : Currency) (e : ℕ) (file : List ℕ) → Passed file → length (extract currency e file) ≡ 94 + length (blocksTo e file)
 extract-length currency e file r =
     ap length (header-blocks currency e file r) ∙ length-append (headerFor currency e (take 94 file)) (blocksTo e file) ∙ omega (arith, header-length currency e file r)
 
-pub whole-room : (currency : Currency) (e : ℕ) (file out : List ℕ) → Read file → length (extract currency e file) ≤ length out → 94 + length (blocksTo e file) ≤ length out
+pub whole-room : (currency : Currency) (e : ℕ) (file out : List ℕ) → Passed file → length (extract currency e file) ≤ length out → 94 + length (blocksTo e file) ≤ length out
 whole-room currency e file out r h = omega (arith, extract-length currency e file r)
 
 -- which together are never longer than the file
-pub blocks-fit : (e : ℕ) (file : List ℕ) → Read file → 94 + length (blocksTo e file) ≤ length file
+pub blocks-fit : (e : ℕ) (file : List ℕ) → Passed file → 94 + length (blocksTo e file) ≤ length file
 blocks-fit e file r = omega (arith, extract-length (r .rules .currency) e file r, extract-fits (r .rules) e file (r .accepts))
 
 -- what is left begins with a batch

@@ -14,15 +14,12 @@ use writing::text;
 // Digits of an entity's number.
 const ENTITY: usize = 4;
 
-// Dollars add this to it.
-const DOLLARS: u64 = 500;
-
 fn adds(currency: Currency) -> u64
     ensures { λ r. ⌜ (r ≡ currencyAdds currency) × (r ≤ 500) ⌝ }
 {
     match currency {
         Currency::Pesos => 0,
-        Currency::Dollars => DOLLARS,
+        Currency::Dollars => Currency::DOLLARS_ADD,
     }
 }
 

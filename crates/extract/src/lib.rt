@@ -3,7 +3,7 @@ ghost use mathlib.Core.Path.{_≡_};
 ghost use Prim.Native.Nat.{_≤_};
 ghost use Rattle.paper.specs.Buffers.{told, written, roomFor};
 ghost use Rattle.paper.specs.Extract.{extract};
-ghost use Rattle.picking.specs.Places.{Read};
+ghost use Rattle.picking.specs.Places.{Passed};
 use batches::records;
 use paper::answer::Fault;
 use paper::answer::Output;
@@ -18,7 +18,7 @@ mod whole;
 // Of a file that the reading accepted. Nothing is written before the size is known.
 pub fn extract(currency: Currency, entity: u64, file: &[u8], out: &mut [u8]) -> Output
     requires { ⌜ entity ≤ 499 ⌝ }
-    requires { ⌜ Read (now file) ⌝ }
+    requires { ⌜ Passed (now file) ⌝ }
     ensures { λ r. ⌜ told r (now (out .exit))
         ≡ written (roomFor (extract currency entity (now (file .entry))) (now (out .entry))) (extract currency entity (now (file .entry))) (now (out .entry)) ⌝ }
 {

@@ -4,7 +4,8 @@ ghost use Prim.Native.Nat.{_≤_};
 ghost use lib.ListN.{length};
 ghost use Rattle.paper.specs.Buffers.{over};
 ghost use Rattle.paper.specs.Extract.{extract};
-ghost use Rattle.picking.specs.Places.{Read, Goes};
+ghost use Rattle.picking.specs.Notes.{goesTo};
+ghost use Rattle.picking.specs.Places.{Passed};
 use crate::batch;
 use crate::header;
 use batches::records;
@@ -13,7 +14,7 @@ use state::State;
 use state::tally;
 
 pub fn write(out: &mut [u8], currency: Currency, entity: u64, file: &[u8], places: &[u16])
-    requires { ⌜ (entity ≤ 499) × Read (now file) × Goes entity (now file) (now places) ⌝ }
+    requires { ⌜ (entity ≤ 499) × Passed (now file) × (now places ≡ goesTo entity (now file)) ⌝ }
     requires { ⌜ length (extract currency entity (now file)) ≤ length (now out) ⌝ }
     ensures { λ _. ⌜ now (out .exit) ≡ over (extract currency entity (now (file .entry))) (now (out .entry)) ⌝ }
 {

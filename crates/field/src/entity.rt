@@ -6,6 +6,7 @@ ghost use Rattle.paper.specs.Entities.{entityValue, ofCurrency, entityField, en
 ghost use Rattle.field.specs.Part.{Inside};
 use crate::number;
 use paper::rules::Currency;
+use paper::rules::Rules;
 
 fn entity_value(rec: &[u8], first: usize, last: usize) -> u64
     requires { ⌜ Inside (now rec) first last ⌝ }
@@ -43,10 +44,10 @@ pub fn entity(rec: &[u8], first: usize, last: usize) -> u64
     requires { ⌜ last ≡ first + 7 ⌝ }
     ensures { λ r. ⌜ (r ≡ entity (field (now (rec .entry)) first last)) × (r < 500) ⌝ }
 {
-    entity_value(rec, first, last) % 500
+    entity_value(rec, first, last) % Currency::DOLLARS_ADD
 }
 
-pub fn on_roster(roster: &[bool; 500], rec: &[u8], first: usize, last: usize) -> bool
+pub fn on_roster(roster: &[bool; Rules::ROSTER], rec: &[u8], first: usize, last: usize) -> bool
     requires { ⌜ Inside (now rec) first last ⌝ }
     requires { ⌜ last ≡ first + 7 ⌝ }
     ensures { λ r. ⌜ r ≡ onRoster (now (roster .entry)) (field (now (rec .entry)) first last) ⌝ }

@@ -1,4 +1,5 @@
 // Where a job's bytes go. They are written beside OUT first and take its place whole, so that no failure leaves half a file under its name.
+ghost use Rattle.files.specs.Handed.{AllOf};
 use crate::taking;
 use libc::ENOENT;
 use libc::PATH_MAX;
@@ -7,6 +8,12 @@ use libc::STDERR_FILENO;
 
 // A path, and what is put behind it while its file is being written.
 const PART: usize = PATH_MAX + 7;
+
+// So many bytes stand under the name; or they do not, and that was said.
+pub enum Handed {
+    Whole(usize),
+    Failed,
+}
 
 fn is_link(path: [u8; PATH_MAX]) -> bool {
     let mut ended = path;
@@ -78,21 +85,26 @@ fn replace(part: &mut [u8], path: &[u8], bytes: &[u8]) -> bool {
 }
 
 // The bytes under the name that a word of the call gives.
-pub fn put(word: usize, bytes: &[u8]) -> bool {
+pub fn put(word: usize, bytes: &[u8]) -> Handed
+    ensures { λ r. ⌜ AllOf (now (bytes .entry)) r ⌝ }
+{
     let mut path = io::buffer();
     let length = taking::name(word, &mut path);
     if length == 0 {
-        return false;
+        return Handed::Failed;
     }
     if is_link(path) {
         say_not_plain(&path[..length]);
-        return false;
+        return Handed::Failed;
     }
     if !is_plain(&path[..length]) {
-        return false;
+        return Handed::Failed;
     }
     let mut part = [0u8; PART];
     let at = writing::text(&mut part, 0, &path[..length]);
     let end = writing::text(&mut part, at, b".XXXXXX");
-    replace(&mut part[..end], &path[..length], bytes)
+    if !replace(&mut part[..end], &path[..length], bytes) {
+        return Handed::Failed;
+    }
+    Handed::Whole(bytes.len())
 }

@@ -2,11 +2,18 @@
 ghost use lib.ListN.{length};
 ghost use Rattle.io.specs.Counts.{Counts};
 ghost use Rattle.files.specs.Counted.{Counted};
+ghost use Rattle.files.specs.Opened.{Descriptor};
 use libc::STDERR_FILENO;
 
 // How much was read; or reading failed, and that was said.
 pub enum Taken {
     Bytes(usize),
+    Failed,
+}
+
+// A descriptor; or the file could not be opened, and that was said.
+pub enum Opened {
+    At(i32),
     Failed,
 }
 
@@ -41,17 +48,20 @@ pub fn name(word: usize, path: &mut [u8]) -> usize
     length
 }
 
-// A descriptor, or a negative number where that was said.
-pub fn open(path: &[u8]) -> i32 {
+// The file of that name, open for reading.
+pub fn open(path: &[u8]) -> Opened
+    ensures { λ r. ⌜ Descriptor r ⌝ }
+{
     let fd = os::open_read(path);
     if fd < 0 {
         os::fail(path);
+        return Opened::Failed;
     }
-    fd
+    Opened::At(fd)
 }
 
 // The file that a word of the call names, as much of it as the buffer takes.
-pub fn take(word: usize, buf: &mut [u8]) -> Taken
+pub fn file(word: usize, buf: &mut [u8]) -> Taken
     ensures { λ r. ⌜ Counted r (length (now (buf .exit))) ⌝ }
 {
     let mut path = io::buffer();
@@ -59,10 +69,10 @@ pub fn take(word: usize, buf: &mut [u8]) -> Taken
     if length == 0 {
         return Taken::Failed;
     }
-    let fd = open(&path[..length]);
-    if fd < 0 {
+    let opened = open(&path[..length]);
+    let Opened::At(fd) = opened else {
         return Taken::Failed;
-    }
+    };
     let taken = fill(fd, &path[..length], buf);
     libc::close(fd);
     taken

@@ -2,19 +2,20 @@
 ghost use mathlib.Core.Path.{_≡_};
 ghost use lib.ListN.{length};
 ghost use Rattle.paper.specs.Records.{fileHeader};
-ghost use Rattle.record.specs.Verdicts.{told, under};
+ghost use Rattle.record.specs.Verdicts.{checkOf, under};
 use field::date;
 use field::entity;
 use field::number;
 use field::text;
 use paper::answer::Fault;
+use paper::rules::Rules;
 use paper::rules::Terms;
 use record::member;
 use record::verdict::Verdict;
 
-pub fn judge(terms: Terms, roster: &[bool; 500], rec: &[u8]) -> Verdict
+pub fn judge(terms: Terms, roster: &[bool; Rules::ROSTER], rec: &[u8]) -> Verdict
     requires { ⌜ length (now rec) ≡ 94 ⌝ }
-    ensures { λ r. ⌜ told r ≡ fileHeader (under terms (now (roster .entry))) (now (rec .entry)) ⌝ }
+    ensures { λ r. ⌜ checkOf r ≡ fileHeader (under terms (now (roster .entry))) (now (rec .entry)) ⌝ }
 {
     let currency = terms.currency;
     let destination = text::reads(rec, 4, 4, b" ")

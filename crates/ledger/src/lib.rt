@@ -17,6 +17,7 @@ use field::entity;
 use field::kind;
 use paper::ledger::Cell;
 use paper::record::Kind;
+use paper::rules::Rules;
 
 // Signed arithmetic, in leaves of its own.
 fn signed(amount: u64) -> i64
@@ -94,7 +95,7 @@ fn collects(rec: &[u8]) -> bool
 }
 
 // Each individual record is posted in place to its two cells, under the sender that it names in 80-87.
-pub fn post(cells: [Cell; 500], file: &[u8], records: usize) -> [Cell; 500]
+pub fn post(cells: [Cell; Rules::ROSTER], file: &[u8], records: usize) -> [Cell; Rules::ROSTER]
     requires { ⌜ (records ≡ length (now file) / 94) × (length (now file) ≤ 940000) ⌝ }
     requires { ⌜ ((i : ℕ) → Touched sessionSides (getD cells i zeroCell)) ⌝ }
     ensures { λ r. ⌜ r ≡ cellsAfter 0 (ownPostings (recordsOf (now (file .entry)))) cells ⌝ }

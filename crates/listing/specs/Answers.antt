@@ -14,10 +14,10 @@ answerLine (refused n place) = refusalLine n place
 -- of a job that writes: `ACCEPTED 940 BYTES`
 unfoldable pub bytesLine : Said → ℕ → List ℕ
 bytesLine accepted n = bytes "ACCEPTED " ++ decimal n ++ bytes " BYTES" ++ lineFeed
-bytesLine (refused n place) written = refusalLine n place
+bytesLine (refused n place) size = refusalLine n place
 
 unfoldable pub outputLine : Outcome → List ℕ
-outputLine o = bytesLine (o .answer) (o .written)
+outputLine o = bytesLine (o .answer) (o .size)
 
 -- of an opening: `OPENING REFUSED 75 AT 0`, and nothing where it is accepted
 unfoldable pub openingLine : Said → List ℕ

@@ -4,8 +4,8 @@ ghost use Rattle.paper.specs.Answers.{said};
 ghost use Rattle.paper.specs.Buffers.{told};
 ghost use Rattle.listing.specs.Room.{Written};
 ghost use Rattle.listing.specs.Answers.{answerLine, outputLine, openingLine};
+use crate::Listing;
 use crate::lines;
-use crate::lines::Listing;
 use paper::answer::Answer;
 use paper::answer::Output;
 

@@ -1,7 +1,7 @@
 // What the program takes from its one file: the date, the currency, and every entity on the roster.
 ghost use mathlib.Core.Path.{_≡_};
 ghost use Rattle.paper.specs.Listing.{dateIn, currencyIn, numbersTo};
-use crate::lines::Listing;
+use crate::Listing;
 use desk::Session;
 use field::date;
 use field::entity;

@@ -6,13 +6,28 @@ ghost use Rattle.desk.specs.Calls.{Reachable};
 ghost use Rattle.listing.specs.Room.{Written};
 use desk::Reply;
 use desk::Session;
-use lines::Listing;
 use paper::answer::Answer;
 use paper::answer::Fault;
 
 pub mod answers;
 pub mod input;
-pub mod lines;
+mod lines;
+
+// What a listing can be at most.
+pub struct Listing;
+
+impl Listing {
+    // Bytes of the program's input, at most.
+    pub const INPUT: usize = 65424;
+    // Lines of entities, at most.
+    pub const ENTITIES: usize = Session::LAST as usize;
+    // Bytes of the heading.
+    const HEADING: usize = 25;
+    // Bytes of a line, at most.
+    const LINE: usize = 67;
+    // The longest listing: the heading, a line for each entity, and one for the sums in place of number 0.
+    pub const ROOM: usize = Listing::HEADING + Session::ROSTER * Listing::LINE;
+}
 
 // The session's listing where the answer is acceptance, else the refusal.
 pub fn print(reply: Reply, out: &mut [u8; Listing::ROOM]) -> usize

@@ -10,21 +10,9 @@ ghost use Rattle.paper.specs.Listing.{decimal, figuresLine, entityLine, plusCel
 ghost use Rattle.paper.specs.Sessions.{zeroCell};
 ghost use Rattle.listing.specs.Room.{HasRoom, Written};
 ghost use Rattle.writing.specs.Laid.{laid};
-use desk::Session;
+use crate::Listing;
 use paper::ledger::Cell;
-
-// What a listing can be at most.
-pub struct Listing;
-
-impl Listing {
-    // Bytes of the program's input, at most.
-    pub const INPUT: usize = 65424;
-    // The highest entity number.
-    pub const ENTITIES: usize = Session::ROSTER - 1;
-
-    // The longest listing: a heading of 25 bytes, a line of at most 67 for each entity, and one for the sums.
-    pub const ROOM: usize = 33525;
-}
+use paper::rules::Rules;
 
 // Two counts, with a blank between.
 fn counts(out: &mut [u8; Listing::ROOM], at: usize, sent: u64, received: u64) -> usize
@@ -80,7 +68,7 @@ fn plus(c: Cell, d: Cell) -> Cell
 }
 
 // The heading, the entities in ascending order, last the sums. Hands back how many bytes these are.
-pub fn write(cells: [Cell; 500], out: &mut [u8; Listing::ROOM]) -> usize
+pub fn write(cells: [Cell; Rules::ROSTER], out: &mut [u8; Listing::ROOM]) -> usize
     requires { ⌜ ((e : ℕ) → Touched sessionSides (getD cells e zeroCell)) ⌝ }
     requires { ⌜ ((n : ℕ) → n ≤ 499 → Touched sessionSides (cellSums n cells)) ⌝ }
     ensures { λ r. ⌜ Written (listing cells) r (now (out .entry)) (now (out .exit)) ⌝ }

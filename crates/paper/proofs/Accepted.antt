@@ -23,7 +23,7 @@ use Rattle.paper.specs.declared.record.Tally.{Tally}
 use Rattle.paper.specs.Controls.{batchControl, blocks, fileControl}
 use Rattle.paper.specs.Reading.{State, start, fields, judged, at, parts, recordsOf, lengthGood, reading}
 use Rattle.paper.specs.Writing.{joined}
-use Rattle.paper.specs.Demands.{Reads}
+use Rattle.paper.specs.Demands.{Faultless}
 use Rattle.paper.proofs.Tests.{and-l, and-r, within-range}
 use Rattle.paper.proofs.Lists.{Sized, joined-parts, sized-parts}
 use Rattle.paper.proofs.Exactly.{also-l, also-r, need-T, wrong-not-fine, accepted-exactly}
@@ -145,7 +145,7 @@ unfolding judged
 judged-facts rules s r h = search (also-l, also-r, need-T, follows)
 
 -- the first record of an accepted file is a header
-pub first-header : (rules : Rules) (r : List ℕ) (rs : List (List ℕ)) → Reads rules start (r ∷ rs) → kindOf r ≡ FileHeader
+pub first-header : (rules : Rules) (r : List ℕ) (rs : List (List ℕ)) → Faultless rules start (r ∷ rs) → kindOf r ≡ FileHeader
 unfolding start
 first-header rules r rs h = go (kindOf r) (judged-facts rules start r (h .0) .order)
   where
@@ -153,7 +153,7 @@ first-header rules r rs h = go (kindOf r) (judged-facts rules start r (h .0) .or
     go k file-begins = refl
 
 -- Nothing stands after a 9
-pub after-last : (rules : Rules) (s : State) (rs : List (List ℕ)) → s .before ≡ Ended → Reads rules s rs → rs ≡ []
+pub after-last : (rules : Rules) (s : State) (rs : List (List ℕ)) → s .before ≡ Ended → Faultless rules s rs → rs ≡ []
 unfolding allowed
 after-last rules s [] e h = refl
 after-last rules s (r ∷ rs) e h = absurd (wrong-not-fine (rw e at (judged-facts rules s r (h .0) .allowed)))
@@ -164,7 +164,7 @@ pub record Accepted (rules : Rules) (file : List ℕ) : Type 0 where
   pub long : 188 ≤ length file
   pub short : length file ≤ 940000
   pub even : length file % 94 ≡ 0
-  pub reads : Reads rules start (recordsOf file)
+  pub reads : Faultless rules start (recordsOf file)
   -- it is its records, of 94 bytes each
   pub sized : Sized 94 (recordsOf file)
   pub whole : joined (recordsOf file) ≡ file

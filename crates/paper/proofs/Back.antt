@@ -16,7 +16,7 @@ use Rattle.paper.specs.Kinds.{kindOf}
 use Rattle.paper.specs.Reading.{Counts, nothingCounted, counted, start, beforeNext, next, parts, recordsOf, reading}
 use Rattle.paper.specs.Writing.{blanks, joined, owed, settled, withControls, closing}
 use Rattle.paper.specs.Trays.{trayRecords, batchesAfter, individualsAfter, numbering, build, zeroed, marked, stripped, strip}
-use Rattle.paper.specs.Demands.{Reads, AsBuilt}
+use Rattle.paper.specs.Demands.{Faultless, AsBuilt}
 use Rattle.paper.proofs.Lists.{Sized, sized-append, records-joined, length-spelled, length-numbered}
 use Rattle.paper.proofs.Accepted.{first-header, accepted-facts}
 use Rattle.paper.proofs.Normal.{normal, normals, tidy-normal, normal-tidy}
@@ -75,7 +75,7 @@ normals-sized (r ∷ rs) b n z = (go (kindOf r), normals-sized rs (batchesAfter 
     go Other = l
 
 -- a file of records, the first of which is a header
-module _ (rules : Rules) (head : List ℕ) (rs : List (List ℕ)) (z : Sized 94 (head ∷ rs)) (h : Reads rules start (head ∷ rs)) where
+module _ (rules : Rules) (head : List ℕ) (rs : List (List ℕ)) (z : Sized 94 (head ∷ rs)) (h : Faultless rules start (head ∷ rs)) where
   k : kindOf head ≡ FileHeader
   k = first-header rules head rs h
 

@@ -16,7 +16,7 @@ use Rattle.paper.specs.Answers.{accepted, refused, andThen, require}
 use Rattle.paper.specs.Checks.{Check, fine, wrong, need, _also_}
 use Rattle.paper.specs.Kinds.{kindOf}
 use Rattle.paper.specs.Reading.{counted, State, start, next, judged, finish, at, readingFrom, recordsOf, lengthGood, reading}
-use Rattle.paper.specs.Demands.{Reads, FirstFault, Accepts, Faulty}
+use Rattle.paper.specs.Demands.{Faultless, FirstFault, Accepts, Faulty}
 use Rattle.paper.proofs.Tests.{of-T}
 use Rattle.paper.proofs.Refusals.{refused-not, both-accept}
 
@@ -56,14 +56,14 @@ finish-ended Flagged place h = absurd (refused-not h)
 finish-ended Inside place h = absurd (refused-not h)
 finish-ended Ended place h = refl
 
-run-reads : (rules : Rules) (rs : List (List ℕ)) (s : State) → readingFrom rules s rs ≡ accepted → Reads rules s rs
+run-reads : (rules : Rules) (rs : List (List ℕ)) (s : State) → readingFrom rules s rs ≡ accepted → Faultless rules s rs
 unfolding readingFrom
 run-reads rules [] s h = finish-ended (s .before) (s .counts .place) h
 run-reads rules (r ∷ rs) s h =
     let p = both-accept (at (s .counts .place) (judged rules s r)) (readingFrom rules (next s r) rs) h in
     (at-fine (s .counts .place) (judged rules s r) (p .0), run-reads rules rs (next s r) (p .1))
 
-reads-run : (rules : Rules) (rs : List (List ℕ)) (s : State) → Reads rules s rs → readingFrom rules s rs ≡ accepted
+reads-run : (rules : Rules) (rs : List (List ℕ)) (s : State) → Faultless rules s rs → readingFrom rules s rs ≡ accepted
 unfolding readingFrom andThen at finish
 reads-run rules [] s h = rw h refl
 reads-run rules (r ∷ rs) s h = rw (h .0) (reads-run rules rs (next s r) (h .1))
@@ -72,7 +72,7 @@ pub accepted-exactly : (rules : Rules) (file : List ℕ) → (reading rules file
 unfolding reading andThen require
 accepted-exactly rules file = (there (lengthGood (length file)), λ h. rw (of-T (lengthGood (length file)) (h .0)) (reads-run rules (recordsOf file) start (h .1)))
   where
-    there : (b : Bool) → andThen (require b 201 0) (readingFrom rules start (recordsOf file)) ≡ accepted → T b × Reads rules start (recordsOf file)
+    there : (b : Bool) → andThen (require b 201 0) (readingFrom rules start (recordsOf file)) ≡ accepted → T b × Faultless rules start (recordsOf file)
     there true h = (tt, run-reads rules (recordsOf file) start h)
     there false h = absurd (refused-not h)
 
@@ -124,9 +124,9 @@ refused-exactly rules file {n} {place} = (go (lengthGood (length file)) refl, ba
     back (inl f) = rw (f .0, f .1, f .2) refl
     back (inr f) = rw (f .0) (fault-run rules (recordsOf file) start n place (f .1))
 
--- ---- the place of a refusal
+-- ---- the place of the next record
 
-next-place : (s : State) (r : List ℕ) → next s r .counts .place ≡ s .counts .place + 1
+pub next-place : (s : State) (r : List ℕ) → next s r .counts .place ≡ s .counts .place + 1
 unfolding next counted
 next-place s r = go (kindOf r)
   where
@@ -138,8 +138,3 @@ next-place s r = go (kindOf r)
     go BatchControl = refl
     go FileControl = refl
     go Other = refl
-
-pub fault-place : (rules : Rules) (rs : List (List ℕ)) (s : State) (n place : ℕ) → FirstFault rules s rs n place → place ≤ s .counts .place + length rs
-fault-place rules [] s n place f = omega (arith, f .2)
-fault-place rules (r ∷ rs) s n place (inl f) = omega (arith, f .1)
-fault-place rules (r ∷ rs) s n place (inr f) = omega (arith, next-place s r, fault-place rules rs (next s r) n place (f .1))

@@ -18,7 +18,7 @@ use Rattle.paper.specs.Entities.{entityValue, ofCurrency, entityField, e
 use Rattle.paper.specs.Kinds.{kindOf, codeOf, known}
 use Rattle.paper.specs.Records.{fileHeader, amountOf, counterGood}
 use Rattle.paper.specs.Reading.{counted, State, start, flag, beforeNext, next, fields, recordsOf, reading}
-use Rattle.paper.specs.Demands.{Reads}
+use Rattle.paper.specs.Demands.{Faultless}
 use Rattle.paper.proofs.Tests.{and-l, and-r, or-go, within-range, same→eq}
 use Rattle.paper.proofs.Lists.{Sized}
 use Rattle.paper.proofs.Digits.{number-bound}
@@ -93,7 +93,7 @@ individual-of rules header r n l b o =
       flag = o .flag;
     }
 
-all-facts : (rules : Rules) (rs : List (List ℕ)) (s : State) → Sized 94 rs → In rules (s .before) (s .counts .header) → Reads rules s rs
+all-facts : (rules : Rules) (rs : List (List ℕ)) (s : State) → Sized 94 rs → In rules (s .before) (s .counts .header) → Faultless rules s rs
     → AllFacts rules rs
 unfolding next beforeNext counted fields flag
 all-facts rules [] s z i h = tt
@@ -126,7 +126,7 @@ abbrev pub Shaped : Before → List (List ℕ) → Type 0
 Shaped b [] = b ≡ Ended
 Shaped b (r ∷ rs) = Follows b (kindOf r) × Shaped (beforeNext (kindOf r) r) rs
 
-shaped : (rules : Rules) (rs : List (List ℕ)) (s : State) → Reads rules s rs → Shaped (s .before) rs
+shaped : (rules : Rules) (rs : List (List ℕ)) (s : State) → Faultless rules s rs → Shaped (s .before) rs
 unfolding next
 shaped rules [] s h = h
 shaped rules (r ∷ rs) s h = (judged-facts rules s r (h .0) .order, shaped rules rs (next s r) (h .1))

@@ -19,7 +19,7 @@ use Rattle.paper.specs.Kinds.{kindOf}
 use Rattle.paper.specs.Reading.{recordsOf}
 use Rattle.paper.specs.Postings.{Posting, posting, postedBy, senderAfter, postingsFrom, postings, position, count, sent, received}
 use Rattle.paper.specs.Sessions.{Session, zeroCell, newSession, openingAnswer, openedWith, opening, answerTo, cellAfter, cellsAfter, sessionAfter, presenting}
-use Rattle.paper.specs.Demands.{withAccepted, Came, opened, presented, postingsOf, Agrees, sumTo}
+use Rattle.paper.specs.Demands.{withAccepted, Arose, opened, presented, postingsOf, Agrees, sumTo}
 use Rattle.paper.proofs.Sums.{sumTo-same, AllWithin, within-append, positions-cancel, counts-add, position-append, count-append}
 
 -- ---- senders and destinations are below 500
@@ -120,13 +120,13 @@ kept-presented s files file t = go (answerTo s file)
       agree = rw (postingsOf-snoc files file) (after-agree (postings file) 0 (s .cells) (postingsOf files) (t .agree));
     }
 
-kept-came : {s : Session} {files : List (List ℕ)} → Came s files → Kept s files
+kept-came : {s : Session} {files : List (List ℕ)} → Arose s files → Kept s files
 unfolding newSession postingsOf
 kept-came (opened date currency entities) =
     opened-by (λ s. Kept s []) (λ d c es. record { cells = length-replicate 500 zeroCell; agree = new-agree 500 0 }) date currency entities
 kept-came (presented c file) = kept-presented _ _ file (kept-came c)
 
-pub cells-came : {s : Session} {files : List (List ℕ)} → Came s files → length (s .cells) ≡ 500
+pub cells-came : {s : Session} {files : List (List ℕ)} → Arose s files → length (s .cells) ≡ 500
 cells-came c = kept-came c .cells
 
 agree-at : (cs : List Cell) (e i : ℕ) (ps : List Posting) → AllAgree cs e ps → i < length cs → Agrees (getD cs i zeroCell) (e + i) ps
@@ -137,31 +137,31 @@ agree-at (c ∷ cs) e (suc i) ps h l =
     subst (λ (n : ℕ). Agrees (getD cs i zeroCell) n ps) q (agree-at cs (e + 1) i ps (h .1) (omega arith))
 
 -- each entity's position and counts are the sums over the records of the files accepted when presented
-pub figures : {s : Session} {files : List (List ℕ)} → Came s files → (e : ℕ) → e < 500 → Agrees (getD (s .cells) e zeroCell) e (postingsOf files)
+pub figures : {s : Session} {files : List (List ℕ)} → Arose s files → (e : ℕ) → e < 500 → Agrees (getD (s .cells) e zeroCell) e (postingsOf files)
 figures {s} {files} c e l =
     let t = kept-came c in
     subst (λ (n : ℕ). Agrees (getD (s .cells) e zeroCell) n (postingsOf files)) (zero-add e) (agree-at (s .cells) 0 e (postingsOf files) (t .agree) (omega (arith, t .cells)))
 
 -- so a figure adds up over the cells as it does over the postings
-pub sums-agree : {s : Session} {files : List (List ℕ)} → Came s files → (n : ℕ) → n ≤ 500 → (figure : Cell → ℤ) (posted : ℕ → ℤ)
+pub sums-agree : {s : Session} {files : List (List ℕ)} → Arose s files → (n : ℕ) → n ≤ 500 → (figure : Cell → ℤ) (posted : ℕ → ℤ)
     → ((c : Cell) (e : ℕ) → Agrees c e (postingsOf files) → figure c ≡ posted e) → sumTo n (λ e. figure (getD (s .cells) e zeroCell)) ≡ sumTo n posted
 sums-agree {s} c n h figure posted same =
     sumTo-same n (λ e. figure (getD (s .cells) e zeroCell)) posted (λ e l. same (getD (s .cells) e zeroCell) e (figures c e (omega arith)))
 
 -- positions add up to zero
-pub positions-zero : {s : Session} {files : List (List ℕ)} → Came s files → sumTo 500 (λ e. (getD (s .cells) e zeroCell) .position) ≡ pos 0
+pub positions-zero : {s : Session} {files : List (List ℕ)} → Arose s files → sumTo 500 (λ e. (getD (s .cells) e zeroCell) .position) ≡ pos 0
 positions-zero {files = files} c =
     sums-agree c 500 (omega arith) (λ d. d .position) (λ e. position e (postingsOf files)) (λ d e a. a .position)
     ∙ positions-cancel (postingsOf files) (within-files files)
 
 -- sent counts add up to the number of records posted, and received counts alike
-pub sent-sum : {s : Session} {files : List (List ℕ)} → Came s files
+pub sent-sum : {s : Session} {files : List (List ℕ)} → Arose s files
     → sumTo 500 (λ e. pos ((getD (s .cells) e zeroCell) .sent)) ≡ pos (length (postingsOf files))
 sent-sum {files = files} c =
     sums-agree c 500 (omega arith) (λ d. pos (d .sent)) (λ e. pos (sent e (postingsOf files))) (λ d e a. ap pos (a .sent))
     ∙ counts-add (λ p. p .sender) (λ p w. w .sender) (postingsOf files) (within-files files)
 
-pub received-sum : {s : Session} {files : List (List ℕ)} → Came s files
+pub received-sum : {s : Session} {files : List (List ℕ)} → Arose s files
     → sumTo 500 (λ e. pos ((getD (s .cells) e zeroCell) .received)) ≡ pos (length (postingsOf files))
 received-sum {files = files} c =
     sums-agree c 500 (omega arith) (λ d. pos (d .received)) (λ e. pos (received e (postingsOf files))) (λ d e a. ap pos (a .received))

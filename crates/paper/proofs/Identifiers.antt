@@ -3,7 +3,7 @@ use Prim.Native.Nat.{ℕ, _+_, _*_, _-_, _≤_, _<_}
 use native.Mathlib.Omega.{arith}
 use mathlib.Core.Bool.{Bool, true, false, cond, not, _||_}
 use mathlib.Core.List.{[], List, _∷_, _++_, map}
-use mathlib.Core.Logic.{⊎-elim, _⊎_, inl, inr}
+use mathlib.Core.Logic.{⊎-elim, _⊎_, inl, inr, _↔_}
 use mathlib.Core.Path.{_≡_, refl, sym, ap, _∙_, subst, ap₂}
 use lib.Dec.{eqb, leb, T, eqb→eq}
 use lib.ListN.{length, getD, take, set, length-replicate, length-set, getD-replicate}
@@ -17,7 +17,7 @@ use Rattle.paper.specs.Fields.{field, among, every, digit, capital, iden
 use Rattle.paper.specs.Records.{fileHeader}
 use Rattle.paper.specs.Reading.{start, fields, reading}
 use Rattle.paper.specs.Sessions.{Session, newSession, originOf, identifierIf, identifierOf, keyOf, answerTo, sessionAfter, presenting}
-use Rattle.paper.specs.Demands.{Reads, withAccepted, Came, opened, presented, identifiersFrom}
+use Rattle.paper.specs.Demands.{Faultless, withAccepted, Arose, opened, presented, identifiersFrom}
 use Rattle.paper.proofs.Tests.{and-l, or-go, T-of, within-range}
 use Rattle.paper.proofs.Lists.{one-of}
 use Rattle.paper.proofs.Exactly.{also-l, also-r, need-T}
@@ -36,7 +36,7 @@ pub header-read : (rules : Rules) (file : List ℕ) → reading rules file ≡ a
 unfolding fields
 header-read rules file h =
     let a = accepted-facts rules file h in
-    let rd : Reads rules start (take 94 file ∷ a .first .0) = rw (a .first .1) at (a .reads) in
+    let rd : Faultless rules start (take 94 file ∷ a .first .0) = rw (a .first .1) at (a .reads) in
     subst (λ (k : Kind). fields k rules start (take 94 file) ≡ fine) (first-header rules (take 94 file) (a .first .0) rd) (judged-facts rules start (take 94 file) (rd .0) .fields)
 
 -- a digit is 0 to 9, a capital 10 to 35
@@ -73,6 +73,21 @@ unfolding identifierOf
 identifier-own rules others f g p q h =
     one-byte (getD f 33 0) (getD g 33 0) (identifies (getD f 33 0) (identifier-good rules f p)) (identifies (getD g 33 0) (identifier-good others g q)) h
 
+-- so a character in position 34 is an identifier, and two are two
+pub identifier-exactly : (rules others : Rules) (f g : List ℕ) → reading rules f ≡ accepted → reading others g ≡ accepted
+    → (identifierOf f ≡ identifierOf g) ↔ (field f 34 34 ≡ field g 34 34)
+unfolding identifierOf
+identifier-exactly rules others f g p q = (
+  λ h. character rules f p ∙ ap (λ (b : ℕ). b ∷ []) (identifier-own rules others f g p q h) ∙ sym (character others g q),
+  λ h.
+      let e : getD f 33 0 ∷ [] ≡ getD g 33 0 ∷ [] = sym (character rules f p) ∙ h ∙ character others g q in
+      let b : getD f 33 0 ≡ getD g 33 0 = cc in
+      ap (λ (c : ℕ). identifierIf (leb c 57) c) b,
+)
+  where
+    character : (rs : Rules) (file : List ℕ) → reading rs file ≡ accepted → field file 34 34 ≡ getD file 33 0 ∷ []
+    character rs file h = one-of file 33 (omega (arith, accepted-facts rs file h .long))
+
 abbrev AllIdentified : List (List ℕ) → Type 0
 AllIdentified [] = Unit {0}
 AllIdentified (f ∷ fs) = (identifierOf f < 36) × AllIdentified fs
@@ -81,7 +96,7 @@ identified-snoc : (fs : List (List ℕ)) (f : List ℕ) → AllIdentified fs →
 identified-snoc [] f a l = (l, tt)
 identified-snoc (x ∷ fs) f a l = (a .0, identified-snoc fs f (a .1) l)
 
-identified-came : {s : Session} {files : List (List ℕ)} → Came s files → AllIdentified files
+identified-came : {s : Session} {files : List (List ℕ)} → Arose s files → AllIdentified files
 unfolding presenting answerTo withAccepted
 identified-came (opened date currency entities) = tt
 identified-came (presented {s} {files} c file) = go (answerTo s file) refl (identified-came c)
@@ -106,7 +121,7 @@ among-snoc (x ∷ ks) k j = ap (λ (b : Bool). eqb j x || b) (among-snoc ks k j)
     swap true false z = refl
     swap false y z = refl
 
-pub used-length : {s : Session} {files : List (List ℕ)} → Came s files → length (s .used) ≡ 18000
+pub used-length : {s : Session} {files : List (List ℕ)} → Arose s files → length (s .used) ≡ 18000
 unfolding newSession presenting sessionAfter
 used-length (opened date currency entities) = opened-by (λ s. length (s .used) ≡ 18000) (λ d c es. length-replicate 18000 false) date currency entities
 used-length (presented {s} c file) = go (answerTo s file) (used-length c)
@@ -115,7 +130,7 @@ used-length (presented {s} c file) = go (answerTo s file) (used-length c)
     go (refused n place) h = h
     go accepted h = length-set (s .used) (keyOf file) true ∙ h
 
-marks-came : {s : Session} {files : List (List ℕ)} → Came s files → (k : ℕ) → k < 18000 → getD (s .used) k false ≡ among (map keyOf files) k
+marks-came : {s : Session} {files : List (List ℕ)} → Arose s files → (k : ℕ) → k < 18000 → getD (s .used) k false ≡ among (map keyOf files) k
 unfolding newSession presenting sessionAfter withAccepted among answerTo
 marks-came (opened date currency entities) k l =
     opened-by (λ s. getD (s .used) k false ≡ false) (λ d c es. getD-replicate 18000 k false false l) date currency entities
@@ -159,7 +174,7 @@ keys-identifiers o i (f ∷ fs) l a = go (eqb o (originOf f)) refl (keys-identif
         rw (ne-eqb (o * 36 + i) (originOf f * 36 + identifierOf f) (λ w. n (omega (arith, a .0)))) h
 
 -- demand 2: presenting answers as the reading does, and 209 exactly where the identifier was accepted from this origin before
-pub presenting-exactly : {s : Session} {files : List (List ℕ)} → Came s files → (file : List ℕ)
+pub presenting-exactly : {s : Session} {files : List (List ℕ)} → Arose s files → (file : List ℕ)
     → (presenting s file) .answer ≡ andThen (reading (s .rules) file) (require (not (among (identifiersFrom (originOf file) files) (identifierOf file))) 209 0)
 unfolding presenting answerTo andThen keyOf
 presenting-exactly {s} {files} c file = go (reading (s .rules) file) refl
@@ -175,6 +190,6 @@ presenting-exactly {s} {files} c file = go (reading (s .rules) file) refl
         ap (new 0) (marks-came c (keyOf file) (key-lt file l) ∙ keys-identifiers (originOf file) (identifierOf file) files l (identified-came c))
 
 -- demand 3: the answer depends on the file, the session's date, currency and roster, and which identifiers were already accepted from the file's origin
-pub answer-depends : {s t : Session} {fs gs : List (List ℕ)} → Came s fs → Came t gs → (file : List ℕ) → s .rules ≡ t .rules
+pub answer-depends : {s t : Session} {fs gs : List (List ℕ)} → Arose s fs → Arose t gs → (file : List ℕ) → s .rules ≡ t .rules
     → ((i : ℕ) → among (identifiersFrom (originOf file) fs) i ≡ among (identifiersFrom (originOf file) gs) i) → (presenting s file) .answer ≡ (presenting t file) .answer
 answer-depends c d file r same = presenting-exactly c file ∙ rw (r, same (identifierOf file)) (sym (presenting-exactly d file))

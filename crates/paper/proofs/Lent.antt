@@ -119,20 +119,20 @@ building-length rules header tray buffer = go (buildable header tray buffer) (re
 
 -- refused by them, the buffer stays
 pub building-stays : (rules : Rules) (header tray buffer : List ℕ) {n place : ℕ} → buildable header tray buffer ≡ refused n place
-    → building rules header tray buffer ≡ record { answer = refused n place; written = 0; buffer = buffer }
+    → building rules header tray buffer ≡ record { answer = refused n place; size = 0; buffer = buffer }
 unfolding building builtIf written
 building-stays rules header tray buffer h = rw h refl
 
 -- a file that would be too long is 201, also where there is no room for it: 201 goes before 206
 pub building-too-long : (rules : Rules) (header tray buffer : List ℕ) → trayAnswer header tray ≡ accepted → lengthGood (length (build header tray)) ≡ false
-    → building rules header tray buffer ≡ record { answer = refused 201 0; written = 0; buffer = buffer }
+    → building rules header tray buffer ≡ record { answer = refused 201 0; size = 0; buffer = buffer }
 unfolding buildable andThen require
 building-too-long rules header tray buffer t l = building-stays rules header tray buffer (rw (t, l) refl)
 
 -- refused by the reading, the bytes that the built file would have taken are spaces
 pub building-spaces : (rules : Rules) (header tray buffer : List ℕ) {n place : ℕ} → buildable header tray buffer ≡ accepted
     → reading rules (build header tray) ≡ refused n place
-    → building rules header tray buffer ≡ record { answer = refused n place; written = 0; buffer = over (blanks (length (build header tray))) buffer }
+    → building rules header tray buffer ≡ record { answer = refused n place; size = 0; buffer = over (blanks (length (build header tray))) buffer }
 unfolding building builtIf builtAs
 building-spaces rules header tray buffer h r = rw (h, r) refl
 
@@ -140,7 +140,7 @@ pub record Built (rules : Rules) (header tray buffer : List ℕ) : Type 0 where
   pub good : trayAnswer header tray ≡ accepted
   pub room : length (build header tray) ≤ length buffer
   pub reads : reading rules (build header tray) ≡ accepted
-  pub final : building rules header tray buffer ≡ record { answer = accepted; written = length (build header tray); buffer = over (build header tray) buffer }
+  pub final : building rules header tray buffer ≡ record { answer = accepted; size = length (build header tray); buffer = over (build header tray) buffer }
 
 -- where building succeeds
 pub built : (rules : Rules) (header tray buffer : List ℕ) → building rules header tray buffer .answer ≡ accepted → Built rules header tray buffer
@@ -167,7 +167,7 @@ built rules header tray buffer h = go (buildable header tray buffer) (reading ru
 -- then stripping the file in that session, with room, returns the tray
 pub strip-built : (rules : Rules) (header tray buffer other : List ℕ) → building rules header tray buffer .answer ≡ accepted
     → length tray ≤ length other
-    → stripping rules (build header tray) other ≡ record { answer = accepted; written = length tray; buffer = over tray other }
+    → stripping rules (build header tray) other ≡ record { answer = accepted; size = length tray; buffer = over tray other }
 unfolding stripping written trayAnswer andThen roomFor
 strip-built rules header tray buffer other h l =
     let b = built rules header tray buffer h in

@@ -1,5 +1,6 @@
 -- Every fault has a number of its own, so that what an answer says is the answer.
 use Prim.Native.Nat.{ℕ}
+use mathlib.Core.Logic.{_↔_}
 use mathlib.Core.Path.{_≡_, refl, sym, ap, _∙_, subst}
 use mathlib.Core.Bool.{cond}
 use mathlib.Core.List.{List}
@@ -9,11 +10,12 @@ use Rattle.paper.specs.declared.answer.Fault.the-variants.{Length, Forma
 use Rattle.paper.specs.declared.answer.Answer.{Answer}
 use Rattle.paper.specs.declared.answer.Answer.the-variants.{Accepted, Refused}
 use Rattle.paper.specs.declared.answer.Output.{Output}
-use Rattle.paper.specs.declared.answer.Output.the-variants.{Accepted as Wrote, Refused as Kept}
+use Rattle.paper.specs.declared.answer.Output.the-variants as output
 use Rattle.paper.specs.Answers.{Said, accepted, refused, numberOf, tableNumbers, said}
 use Rattle.paper.specs.Fields.{among}
 use Rattle.paper.specs.Buffers.{Outcome, told}
-use Rattle.paper.specs.Demands.{StandsAt, Answered}
+use Rattle.paper.specs.Demands.{Answered}
+use Rattle.paper.proofs.Refusals.{refused-not}
 
 -- the fault of a number
 named : ℕ → Fault
@@ -66,19 +68,20 @@ in-table Entity = tt
 in-table Identifier = tt
 
 -- so every answer whose place is known ends as it must
-pub answered : (records : ℕ) (a : Answer) {x : Said} → said a ≡ x → StandsAt records x → Answered records (said a)
-answered records a h t = go a (subst (StandsAt records) (sym h) t)
-  where
-    go : (b : Answer) → StandsAt records (said b) → Answered records (said b)
-    go Accepted t = tt
-    go (Refused f place) t = (in-table f, t)
+module _ (stands : Said → Type 0) where
+  pub answered : (a : Answer) {x : Said} → said a ≡ x → stands x → Answered stands (said a)
+  answered a h t = go a (subst stands (sym h) t)
+    where
+      go : (b : Answer) → stands (said b) → Answered stands (said b)
+      go Accepted t = tt
+      go (Refused f place) t = (in-table f, t)
 
-pub told-answered : (records : ℕ) (o : Output) (after : List ℕ) {x : Said} → told o after .answer ≡ x → StandsAt records x → Answered records (told o after .answer)
-told-answered records o after h t = go o (subst (StandsAt records) (sym h) t)
-  where
-    go : (b : Output) → StandsAt records (told b after .answer) → Answered records (told b after .answer)
-    go (Wrote n) t = tt
-    go (Kept f place) t = (in-table f, t)
+  pub told-answered : (o : Output) (after : List ℕ) {x : Said} → told o after .answer ≡ x → stands x → Answered stands (told o after .answer)
+  told-answered o after h t = go o (subst stands (sym h) t)
+    where
+      go : (b : Output) → stands (told b after .answer) → Answered stands (told b after .answer)
+      go (output.Accepted n) t = tt
+      go (output.Refused f place) t = (in-table f, t)
 
 -- the answer that says it
 answering : Said → Answer
@@ -96,21 +99,29 @@ said-once a b h = sym (answering-said a) ∙ ap answering h ∙ answering-said b
 
 -- the output that is told so
 telling : Said → ℕ → Output
-telling accepted n = Wrote n
-telling (refused m place) n = Kept (named m) place
+telling accepted n = output.Accepted n
+telling (refused m place) n = output.Refused (named m) place
 
-telling-told : (a : Output) (x : List ℕ) → telling (told a x .answer) (told a x .written) ≡ a
+telling-told : (a : Output) (x : List ℕ) → telling (told a x .answer) (told a x .size) ≡ a
 unfolding telling
-telling-told (Wrote n) x = refl
-telling-told (Kept f place) x = ap (λ (g : Fault). Kept g place) (named-number f)
+telling-told (output.Accepted n) x = refl
+telling-told (output.Refused f place) x = ap (λ (g : Fault). output.Refused g place) (named-number f)
 
 told-buffer : (a : Output) (x : List ℕ) → told a x .buffer ≡ x
-told-buffer (Wrote n) x = refl
-told-buffer (Kept f place) x = refl
+told-buffer (output.Accepted n) x = refl
+told-buffer (output.Refused f place) x = refl
 
 -- two outputs that are told the same are the same, with the same buffer
 pub told-once : (a b : Output) (x y : List ℕ) → told a x ≡ told b y → (a ≡ b) × (x ≡ y)
 told-once a b x y h = (
-  sym (telling-told a x) ∙ ap (λ (o : Outcome). telling (o .answer) (o .written)) h ∙ telling-told b y,
+  sym (telling-told a x) ∙ ap (λ (o : Outcome). telling (o .answer) (o .size)) h ∙ telling-told b y,
   sym (told-buffer a x) ∙ ap (λ (o : Outcome). o .buffer) h ∙ told-buffer b y,
 )
+
+-- a job that writes refuses with this fault exactly where that is what it says
+pub told-refused : (o : Output) (after : List ℕ) (fault : Fault) (place : ℕ) → (o ≡ output.Refused fault place) ↔ (told o after .answer ≡ refused (numberOf fault) place)
+told-refused o after fault place = ((λ h. ap (λ (x : Output). told x after .answer) h), go o)
+  where
+    go : (x : Output) → told x after .answer ≡ refused (numberOf fault) place → x ≡ output.Refused fault place
+    go (output.Accepted n) h = absurd (refused-not (sym h))
+    go (output.Refused f p) h = let n : numberOf f ≡ numberOf fault = cc in let q : p ≡ place = cc in rw (own-number f fault n, q) refl

@@ -14,7 +14,7 @@ use Rattle.paper.specs.Kinds.{kindOf}
 use Rattle.paper.specs.Reading.{recordsOf, reading}
 use Rattle.paper.specs.Postings.{Posting, posting, postedBy, ownPostings}
 use Rattle.paper.specs.Sessions.{Session, zeroCell, keyOf, answerTo, presenting}
-use Rattle.paper.specs.Demands.{withAccepted, Came, opened, presented, postingsOf, allRecords, names, naming, Equal}
+use Rattle.paper.specs.Demands.{withAccepted, Arose, opened, presented, postingsOf, allRecords, names, naming, Equal}
 use Rattle.paper.proofs.Refusals.{both-accept, required}
 use Rattle.paper.proofs.Sums.{namedBy, postingsNaming, own-same}
 use Rattle.paper.proofs.Places.{postings-own}
@@ -44,7 +44,7 @@ presented-new s file h =
     new false t = refl
 
 -- the postings of the files accepted are those of their records
-postings-came : {s : Session} {files : List (List ℕ)} → Came s files → postingsOf files ≡ ownPostings (allRecords files)
+postings-came : {s : Session} {files : List (List ℕ)} → Arose s files → postingsOf files ≡ ownPostings (allRecords files)
 unfolding postingsOf allRecords ownPostings presenting answerTo withAccepted
 postings-came (opened date currency entities) = refl
 postings-came (presented {s} {files} c file) = go (answerTo s file) refl (postings-came c)
@@ -81,7 +81,7 @@ naming-own e (r ∷ rs) = step (kindOf r) (naming-own e rs)
     step Other h = h
 
 -- if in two sessions the accepted records that name E as sender or receiver form the same list, E's position and counts are equal
-pub own-records : {s t : Session} {fs gs : List (List ℕ)} → Came s fs → Came t gs → (e : ℕ) → e < 500
+pub own-records : {s t : Session} {fs gs : List (List ℕ)} → Arose s fs → Arose t gs → (e : ℕ) → e < 500
     → naming e (allRecords fs) ≡ naming e (allRecords gs) → Equal (getD (s .cells) e zeroCell) (getD (t .cells) e zeroCell)
 own-records {fs = fs} {gs = gs} c d e l h =
     let a = figures c e l in

@@ -19,7 +19,7 @@ use Rattle.paper.specs.Entities.{entity}
 use Rattle.paper.specs.Kinds.{kindOf}
 use Rattle.paper.specs.Reading.{counted, State, start, flag, beforeNext, next, fields, parts, recordsOf, reading}
 use Rattle.paper.specs.Postings.{Posting, posting, postedBy, senderAfter, postingsFrom, postings, ownPostings}
-use Rattle.paper.specs.Demands.{Reads}
+use Rattle.paper.specs.Demands.{Faultless}
 use Rattle.paper.proofs.Lists.{length-parts}
 use Rattle.paper.proofs.Accepted.{individual-read, Follows, file-begins, batch-opens, file-ends, first-individual, its-additional, next-individual, batch-closes, judged-facts, accepted-facts}
 use Rattle.paper.proofs.Facts.{Facts, AllFacts, own-sender, file-facts}
@@ -47,7 +47,7 @@ Sent Flagged b n = n ≡ entity (field b 80 87)
 Sent Inside b n = n ≡ entity (field b 80 87)
 Sent Ended b n = Unit {0}
 
-own-postings : (rules : Rules) (rs : List (List ℕ)) (s : State) (n : ℕ) → Sent (s .before) (s .counts .header) n → Reads rules s rs
+own-postings : (rules : Rules) (rs : List (List ℕ)) (s : State) (n : ℕ) → Sent (s .before) (s .counts .header) n → Faultless rules s rs
     → postingsFrom n rs ≡ ownPostings rs
 unfolding postingsFrom ownPostings next beforeNext counted fields flag postedBy senderAfter
 own-postings rules [] s n i h = refl

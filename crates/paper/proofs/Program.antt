@@ -15,7 +15,7 @@ use Rattle.paper.specs.Dates.{monthDays, isDate, dateField}
 use Rattle.paper.specs.Postings.{postings}
 use Rattle.paper.specs.Sessions.{Session, openingAnswer, opening}
 use Rattle.paper.specs.Listing.{lineFeed, figuresLine, entityLines, cellSums, listing, hasHeader, dateIn, currencyIn, numbersTo, printed, oneFile, positionsOf}
-use Rattle.paper.specs.Demands.{withAccepted, Came, opened, presented, postingsOf}
+use Rattle.paper.specs.Demands.{withAccepted, Arose, opened, presented, postingsOf}
 use Rattle.paper.proofs.Tests.{and-l, and-r, T-of, of-T}
 use Rattle.paper.proofs.Refusals.{require-met}
 use Rattle.paper.proofs.Digits.{every-append}
@@ -58,13 +58,13 @@ program-opens file = open-all (dateIn file) (date-in file)
 abbrev pub balanced : ℕ → Cell
 balanced n = record { position = pos 0; sent = n; received = n }
 
-pub sums-balanced : {s : Session} {files : List (List ℕ)} → Came s files → cellSums 499 (s .cells) ≡ balanced (length (postingsOf files))
+pub sums-balanced : {s : Session} {files : List (List ℕ)} → Arose s files → cellSums 499 (s .cells) ≡ balanced (length (postingsOf files))
 sums-balanced c = let w = sums-whole c in λ i. record { position = w .0 i; sent = w .1 i; received = w .2 i }
 
-one-came : (file : List ℕ) → oneFile file .answer ≡ accepted → Came (oneFile file .session) (file ∷ [])
+one-came : (file : List ℕ) → oneFile file .answer ≡ accepted → Arose (oneFile file .session) (file ∷ [])
 unfolding oneFile withAccepted
 one-came file h =
-    subst (λ (a : Said). Came (oneFile file .session) (withAccepted a [] file)) h (presented (opened (dateIn file) (currencyIn file) (numbersTo 499)) file)
+    subst (λ (a : Said). Arose (oneFile file .session) (withAccepted a [] file)) h (presented (opened (dateIn file) (currencyIn file) (numbersTo 499)) file)
 
 -- where a listing is printed, its last line is SUM, the number of the file's individual records twice, and 0
 pub positions-balanced : (file : List ℕ) → length file ≤ 65424 → oneFile file .answer ≡ accepted

@@ -67,7 +67,7 @@ stripped-tray rules file h =
 -- building from a stripped file and its own header, with room, gives the file where it is numbered this way and its free control positions are blank
 pub build-stripped : (rules : Rules) (file buffer : List ℕ) → reading rules file ≡ accepted → AsBuilt 0 0 (recordsOf file)
     → length file ≤ length buffer
-    → building rules (take 94 file) (strip file) buffer ≡ record { answer = accepted; written = length file; buffer = over file buffer }
+    → building rules (take 94 file) (strip file) buffer ≡ record { answer = accepted; size = length file; buffer = over file buffer }
 unfolding building buildable roomFor andThen builtIf builtAs written
 build-stripped rules file buffer h t l =
     let b : build (take 94 file) (strip file) ≡ file = build-strips-back rules file h .1 t in

@@ -18,7 +18,7 @@ use Rattle.paper.specs.Controls.{plus, withIndividual, withAdditional}
 use Rattle.paper.specs.Reading.{Counts, counted, State, flag, beforeNext, next, fields}
 use Rattle.paper.specs.Writing.{numbered, batchControlOf, fileControlOf, owed, settled, owedBefore, settledBefore, ending, withControls}
 use Rattle.paper.specs.Trays.{batchesAfter, individualsAfter, numberedBy, numbering, zeroed, marked, stripped}
-use Rattle.paper.specs.Demands.{Reads}
+use Rattle.paper.specs.Demands.{Faultless}
 use Rattle.paper.proofs.Lists.{Sized, kind-numbered}
 use Rattle.paper.proofs.Sums.{own}
 use Rattle.paper.proofs.Accepted.{control-read, total-read, Follows, file-begins, batch-opens, file-ends, first-individual, its-additional, next-individual, batch-closes, judged-facts, after-last}
@@ -63,7 +63,7 @@ abbrev pub bodies : List (List ℕ) → List (List ℕ)
 bodies rs = map (drop 2) (stripped rs)
 
 abbrev pub Rebuilt : Rules → List (List ℕ) → Type 0
-Rebuilt rules rs = (s : State) (c : Counts) (n : ℕ) (w : Before) → s .before ≡ w → Link w (s .counts) c → Reads rules s rs
+Rebuilt rules rs = (s : State) (c : Counts) (n : ℕ) (w : Before) → s .before ≡ w → Link w (s .counts) c → Faultless rules s rs
     → withControls c (numbering (c .batches) n (bodies rs)) ≡ owes w c ++ normals (c .batches) n rs
 
 link-flag : (x : Bool) (a c : Counts) → Together a c → Link (flag x) a c
@@ -91,7 +91,7 @@ module _ (rules : Rules) (r : List ℕ) (rs : List (List ℕ)) (l : length r ≡
   numbered-kind : (m : ℕ) → kindOf (numbered m r) ≡ kindOf r
   numbered-kind m = kind-numbered m r (omega arith)
 
-  step5 : kindOf r ≡ BatchHeader → Beside (s .counts) c → Reads rules (next s r) rs
+  step5 : kindOf r ≡ BatchHeader → Beside (s .counts) c → Faultless rules (next s r) rs
       → withControls c (numbering (c .batches) n (bodies (r ∷ rs))) ≡ owed (c .batches) c ++ normals (c .batches) n (r ∷ rs)
   unfolding withControls numbering numberedBy batchesAfter individualsAfter stripped marked normals normal owedBefore settledBefore next counted beforeNext
   step5 k i h =
@@ -111,7 +111,7 @@ module _ (rules : Rules) (r : List ℕ) (rs : List (List ℕ)) (l : length r ≡
       (ap (λ (x : List (List ℕ)). owed (c .batches) c ++ numbered m r ∷ x)
       (subst (λ (x : ℕ). withControls d (numbering x n (bodies rs)) ≡ normals x n rs) q (ih (next s r) d n Opened (ap (λ (x : Kind). beforeNext x r) k) link h)))
 
-  step6 : kindOf r ≡ Individual → Together (s .counts) c → Reads rules (next s r) rs
+  step6 : kindOf r ≡ Individual → Together (s .counts) c → Faultless rules (next s r) rs
       → withControls c (numbering (c .batches) n (bodies (r ∷ rs))) ≡ normals (c .batches) n (r ∷ rs)
   unfolding withControls numbering numberedBy batchesAfter individualsAfter stripped marked normals normal owedBefore settledBefore next counted beforeNext
   step6 k i h =
@@ -130,7 +130,7 @@ module _ (rules : Rules) (r : List ℕ) (rs : List (List ℕ)) (l : length r ≡
       (ap (λ (y : List (List ℕ)). numbered (suc n) r ∷ y)
       (ih (next s r) d (suc n) (flag x) (ap (λ (y : Kind). beforeNext y r) k) (link-flag x (next s r .counts) d link) h ∙ ap (λ (o : List (List ℕ)). o ++ normals (c .batches) (suc n) rs) (owes-flag x d)))
 
-  step7 : kindOf r ≡ Additional → Together (s .counts) c → Reads rules (next s r) rs
+  step7 : kindOf r ≡ Additional → Together (s .counts) c → Faultless rules (next s r) rs
       → withControls c (numbering (c .batches) n (bodies (r ∷ rs))) ≡ normals (c .batches) n (r ∷ rs)
   unfolding withControls numbering numberedBy batchesAfter individualsAfter stripped marked normals normal owedBefore settledBefore next counted beforeNext
   step7 k i h =
@@ -147,7 +147,7 @@ module _ (rules : Rules) (r : List ℕ) (rs : List (List ℕ)) (l : length r ≡
       rw (k, kind-zeroed r l, k, numbered-zeroed n r l, numbered-kind n, k)
       (ap (λ (y : List (List ℕ)). numbered n r ∷ y) (ih (next s r) d n Inside (ap (λ (y : Kind). beforeNext y r) k) link h))
 
-  step8 : kindOf r ≡ BatchControl → Together (s .counts) c → fields BatchControl rules s r ≡ fine → Reads rules (next s r) rs
+  step8 : kindOf r ≡ BatchControl → Together (s .counts) c → fields BatchControl rules s r ≡ fine → Faultless rules (next s r) rs
       → withControls c (numbering (c .batches) n (bodies (r ∷ rs))) ≡ normals (c .batches) n (r ∷ rs)
   unfolding stripped marked normals batchesAfter individualsAfter next counted beforeNext fields owed settled
   step8 k i f h =

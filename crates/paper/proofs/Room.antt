@@ -12,7 +12,7 @@ use Rattle.paper.specs.declared.ledger.Cell.{Cell}
 use Rattle.paper.specs.Answers.{Said, accepted, refused}
 use Rattle.paper.specs.Postings.{Posting, postings, position, sent, received}
 use Rattle.paper.specs.Sessions.{Session, zeroCell, newSession, keyOf, answerTo, sessionAfter, presenting}
-use Rattle.paper.specs.Demands.{withAccepted, Came, opened, presented, postingsOf, Touched, sessionSides}
+use Rattle.paper.specs.Demands.{withAccepted, Arose, opened, presented, postingsOf, Touched, sessionSides}
 use Rattle.paper.proofs.Sums.{Adds, one-adds}
 use Rattle.paper.proofs.Places.{AllSound, sound-append, postings-sound, postings-count}
 use Rattle.paper.proofs.Bounds.{position-bound, count-bound}
@@ -45,7 +45,7 @@ marks-none (suc n) = omega (arith, marks-none n)
 length-snoc : (fs : List (List ℕ)) (f : List ℕ) → length (fs ++ f ∷ []) ≡ length fs + 1
 length-snoc fs f = length-append fs (f ∷ [])
 
-marks-files : {s : Session} {files : List (List ℕ)} → Came s files → marks (s .used) ≡ length files
+marks-files : {s : Session} {files : List (List ℕ)} → Arose s files → marks (s .used) ≡ length files
 unfolding newSession presenting sessionAfter answerTo withAccepted
 marks-files (opened date currency entities) = opened-by (λ s. marks (s .used) ≡ 0) (λ d c es. marks-none 18000) date currency entities
 marks-files (presented {s} {files} c file) = go (answerTo s file) refl (marks-files c)
@@ -58,7 +58,7 @@ marks-files (presented {s} {files} c file) = go (answerTo s file) refl (marks-fi
         marks-more (s .used) (keyOf file) l (p .1) ∙ omega (arith, length-snoc files file)
 
 -- no more than 18,000 files are accepted
-pub files-bound : {s : Session} {files : List (List ℕ)} → Came s files → length files ≤ 18000
+pub files-bound : {s : Session} {files : List (List ℕ)} → Arose s files → length files ≤ 18000
 files-bound {s} c = omega (arith, marks-bound (s .used), marks-files c, used-length c)
 
 -- the postings of the accepted files
@@ -66,7 +66,7 @@ record Posted (s : Session) (files : List (List ℕ)) : Type 0 where
   sound : AllSound (s .rules) (postingsOf files)
   count : length (postingsOf files) ≤ length files * 10000
 
-posted-came : {s : Session} {files : List (List ℕ)} → Came s files → Posted s files
+posted-came : {s : Session} {files : List (List ℕ)} → Arose s files → Posted s files
 unfolding postingsOf presenting answerTo sessionAfter withAccepted
 posted-came (opened date currency entities) = record { sound = tt; count = omega arith }
 posted-came (presented {s} {files} c file) = go (answerTo s file) refl (posted-came c)
@@ -82,7 +82,7 @@ posted-came (presented {s} {files} c file) = go (answerTo s file) refl (posted-c
         }
 
 -- no accepted record names an entity that is not on the roster, or 0
-pub sound-came : {s : Session} {files : List (List ℕ)} → Came s files → AllSound (s .rules) (postingsOf files)
+pub sound-came : {s : Session} {files : List (List ℕ)} → Arose s files → AllSound (s .rules) (postingsOf files)
 sound-came c = posted-came c .sound
 
 -- ---- figures that add up what postings say
@@ -94,7 +94,7 @@ pub record Totalled (total : (ℕ → ℤ) → ℤ) (c : Cell) (ps : List Postin
   pub received : pos (c .received) ≡ total (λ e. pos (received e ps))
 
 -- 18,000 files of 10,000 records at most, and a posting has two sides
-pub totalled-touched : {s : Session} {files : List (List ℕ)} {total : (ℕ → ℤ) → ℤ} {d : Cell} → Came s files → Adds total
+pub totalled-touched : {s : Session} {files : List (List ℕ)} {total : (ℕ → ℤ) → ℤ} {d : Cell} → Arose s files → Adds total
     → Totalled total d (postingsOf files) → Touched sessionSides d
 totalled-touched {s} {files} c a t =
     let n : length (postingsOf files) ≤ 180000000 = omega (arith, posted-came c .count, files-bound c) in
@@ -107,7 +107,7 @@ totalled-touched {s} {files} c a t =
 -- ---- of one cell
 
 -- of any number: beyond the 500 cells there are zeros
-pub cells-touched : {s : Session} {files : List (List ℕ)} → Came s files → (e : ℕ) → Touched sessionSides (getD (s .cells) e zeroCell)
+pub cells-touched : {s : Session} {files : List (List ℕ)} → Arose s files → (e : ℕ) → Touched sessionSides (getD (s .cells) e zeroCell)
 cells-touched {s} {files} c e = go (ltb e 500) refl
   where
     go : (b : Bool) → ltb e 500 ≡ b → Touched sessionSides (getD (s .cells) e zeroCell)
@@ -119,11 +119,11 @@ cells-touched {s} {files} c e = go (ltb e 500) refl
         rw (List·getD-eq-default (s .cells) zeroCell {n = e} (omega (arith, cells-came c))) (record { position = omega arith; sent = omega arith; received = omega arith })
 
 -- no position leaves 64 bits
-pub position-fits : {s : Session} {files : List (List ℕ)} → Came s files → (e : ℕ) → e < 500
+pub position-fits : {s : Session} {files : List (List ℕ)} → Arose s files → (e : ℕ) → e < 500
     → natAbs ((getD (s .cells) e zeroCell) .position) < 2 ^ 63
 position-fits c e l = omega (arith, cells-touched c e .position)
 
 -- and no count does
-pub counts-fit : {s : Session} {files : List (List ℕ)} → Came s files → (e : ℕ) → e < 500
+pub counts-fit : {s : Session} {files : List (List ℕ)} → Arose s files → (e : ℕ) → e < 500
     → ((getD (s .cells) e zeroCell) .sent < 2 ^ 64) × ((getD (s .cells) e zeroCell) .received < 2 ^ 64)
 counts-fit c e l = let t = cells-touched c e in (omega (arith, t .sent), omega (arith, t .received))

@@ -11,7 +11,7 @@ use Rattle.paper.specs.declared.ledger.Cell.{Cell}
 use Rattle.paper.specs.Postings.{Posting, position, count, sent, received}
 use Rattle.paper.specs.Sessions.{Session, zeroCell}
 use Rattle.paper.specs.Listing.{plusCell, cellSums}
-use Rattle.paper.specs.Demands.{Came, postingsOf, Agrees, Touched, sumTo, sessionSides}
+use Rattle.paper.specs.Demands.{Arose, postingsOf, Agrees, Touched, sumTo, sessionSides}
 use Rattle.paper.proofs.Sums.{first-adds, namedBy, postingsNaming, own}
 use Rattle.paper.proofs.Places.{AllSound}
 use Rattle.paper.proofs.Figures.{figures, sums-agree, positions-zero, sent-sum, received-sum}
@@ -28,7 +28,7 @@ naming-none rules (p ∷ ps) s =
     rw (ne-eqb 0 (p .sender) (omega arith), ne-eqb 0 (p .destination) (omega arith)) (naming-none rules ps (s .1))
 
 -- no accepted record names entity 0
-pub cell-none : {s : Session} {files : List (List ℕ)} → Came s files → getD (s .cells) 0 zeroCell ≡ zeroCell
+pub cell-none : {s : Session} {files : List (List ℕ)} → Arose s files → getD (s .cells) 0 zeroCell ≡ zeroCell
 unfolding position count
 cell-none {s} {files} c =
     let ps : List Posting = postingsOf files in
@@ -44,14 +44,14 @@ cell-none {s} {files} c =
 -- ---- sums over cells
 
 -- a figure that adds up with cells, over entities 1 to n: entity 0 adds nothing
-sums-cells : {s : Session} {files : List (List ℕ)} → Came s files → (n : ℕ) (figure : Cell → ℤ)
+sums-cells : {s : Session} {files : List (List ℕ)} → Arose s files → (n : ℕ) (figure : Cell → ℤ)
     → ((a b : Cell) → figure (plusCell a b) ≡ figure a +ℤ figure b) → figure (cellSums n (s .cells)) ≡ sumTo (suc n) (λ e. figure (getD (s .cells) e zeroCell))
 unfolding cellSums sumTo
 sums-cells {s} c zero figure plus = sym (+ℤ-idl (figure (getD (s .cells) 0 zeroCell)) ∙ ap figure (cell-none c))
 sums-cells {s} c (suc n) figure plus =
     plus (cellSums n (s .cells)) (getD (s .cells) (suc n) zeroCell) ∙ ap (λ (z : ℤ). z +ℤ figure (getD (s .cells) (suc n) zeroCell)) (sums-cells c n figure plus)
 
-sums-came : {s : Session} {files : List (List ℕ)} → Came s files → (n : ℕ) → n ≤ 499
+sums-came : {s : Session} {files : List (List ℕ)} → Arose s files → (n : ℕ) → n ≤ 499
     → Totalled (sumTo (suc n)) (cellSums n (s .cells)) (postingsOf files)
 unfolding plusCell
 sums-came {s} {files} c n l = record {
@@ -64,11 +64,11 @@ sums-came {s} {files} c n l = record {
         → ((d : Cell) (e : ℕ) → Agrees d e (postingsOf files) → figure d ≡ posted e) → figure (cellSums n (s .cells)) ≡ sumTo (suc n) posted
     whole figure plus posted same = sums-cells c n figure plus ∙ sums-agree c (suc n) (omega arith) figure posted same
 
-pub sums-touched : {s : Session} {files : List (List ℕ)} → Came s files → (n : ℕ) → n ≤ 499 → Touched sessionSides (cellSums n (s .cells))
+pub sums-touched : {s : Session} {files : List (List ℕ)} → Arose s files → (n : ℕ) → n ≤ 499 → Touched sessionSides (cellSums n (s .cells))
 sums-touched c n l = totalled-touched c (first-adds (suc n)) (sums-came c n l)
 
 -- the sums over all entities: no position, and as many records received as sent
-pub sums-whole : {s : Session} {files : List (List ℕ)} → Came s files
+pub sums-whole : {s : Session} {files : List (List ℕ)} → Arose s files
     → (cellSums 499 (s .cells) .position ≡ pos 0) × (cellSums 499 (s .cells) .sent ≡ length (postingsOf files)) × (cellSums 499 (s .cells) .received ≡ length (postingsOf files))
 unfolding plusCell
 sums-whole c = (

@@ -31,8 +31,8 @@ abbrev pub fresh : Session
 fresh = (opening 250630 Pesos (401 ∷ 402 ∷ 403 ∷ [])) .session
 
 -- fresh, after a file
-abbrev after : List ℕ → Session
-after file = (presenting fresh file) .session
+abbrev freshAfter : List ℕ → Session
+freshAfter file = (presenting fresh file) .session
 
 -- L's tray, with a byte put at an index of the record at a place
 abbrev trayWith : ℕ → ℕ → ℕ → List ℕ
@@ -42,21 +42,21 @@ abbrev pub beyond : List Row
 beyond =
     -- 36 returns a debit: its sender collects
     case 13 (reads (today Pesos) rejection accepted) ∷
-    case 13 (holds (after rejection) (401 ∷ 403 ∷ []) (cell (pos 45000) 2 1 ∷ cell (negℤ (pos 32500)) 1 1 ∷ [])) ∷
+    case 13 (holds (freshAfter rejection) (401 ∷ 403 ∷ []) (cell (pos 45000) 2 1 ∷ cell (negℤ (pos 32500)) 1 1 ∷ [])) ∷
     -- 31 counts and posts as 32 does
     case 13 (reads (today Pesos) reversalRejection accepted) ∷
-    case 13 (holds (after reversalRejection) (401 ∷ 403 ∷ []) (cell (pos 60000) 2 1 ∷ cell (negℤ (pos 47500)) 1 1 ∷ [])) ∷
+    case 13 (holds (freshAfter reversalRejection) (401 ∷ 403 ∷ []) (cell (pos 60000) 2 1 ∷ cell (negℤ (pos 47500)) 1 1 ∷ [])) ∷
     -- records are posted only where the file control was seen
     case 14 (presents fresh (take 846 caseL) (refused 17 9) fresh) ∷
     case 14 (presents fresh (put 9 32 "000000052501" caseL) (refused 17 9) fresh) ∷
     -- 209: the identifier, and the origin without branch
-    case 14 (answers (after (put 0 34 "0" empty)) empty accepted) ∷
-    case 14 (answers (after empty) (put 0 34 "B" empty) accepted) ∷
-    case 14 (answers (after empty) (put 0 19 "0009" empty) (refused 209 0)) ∷
-    case 14 (answers (after empty) (put 0 19 "9009" empty) (refused 209 0)) ∷
-    case 14 (answers (after (put 0 34 "9" empty)) empty accepted) ∷
-    case 14 (answers (after empty) (put 0 15 "0402" empty) accepted) ∷
-    case 14 (answers (after empty) (put 2 30 "0000000000" caseL) (refused 19 2)) ∷
+    case 14 (answers (freshAfter (put 0 34 "0" empty)) empty accepted) ∷
+    case 14 (answers (freshAfter empty) (put 0 34 "B" empty) accepted) ∷
+    case 14 (answers (freshAfter empty) (put 0 19 "0009" empty) (refused 209 0)) ∷
+    case 14 (answers (freshAfter empty) (put 0 19 "9009" empty) (refused 209 0)) ∷
+    case 14 (answers (freshAfter (put 0 34 "9" empty)) empty accepted) ∷
+    case 14 (answers (freshAfter empty) (put 0 15 "0402" empty) accepted) ∷
+    case 14 (answers (freshAfter empty) (put 2 30 "0000000000" caseL) (refused 19 2)) ∷
     -- characters: all 57 of them, as document 004 prints the set
     case 15 (characters " !#$%()*+,-./0123456789:;<=>?@ABCDEFGHIJKLMNOPQRSTUVWXYZ_") ∷
     -- dates: the last day of each month, and the day after it

@@ -18,13 +18,13 @@ use Rattle.paper.specs.Trays.{trayRecords, trayFault, build, strip}
 -- the answer, how many bytes were written where it is acceptance, and the buffer as it is handed back
 pub record Outcome : Type 0 where
   pub answer : Said
-  pub written : ℕ
+  pub size : ℕ
   pub buffer : List ℕ
 
 -- what a job of the library says, with the buffer that it hands back
 abbrev pub told : Output → List ℕ → Outcome
-told (Accepted n) buffer = record { answer = accepted; written = n; buffer = buffer }
-told (Refused fault place) buffer = record { answer = refused (numberOf fault) place; written = 0; buffer = buffer }
+told (Accepted n) buffer = record { answer = accepted; size = n; buffer = buffer }
+told (Refused fault place) buffer = record { answer = refused (numberOf fault) place; size = 0; buffer = buffer }
 
 -- the first bytes are new, the rest of the buffer stays
 unfoldable pub over : List ℕ → List ℕ → List ℕ
@@ -32,8 +32,8 @@ over new buffer = new ++ drop (length new) buffer
 
 -- where accepted the bytes are written; every refusal leaves the buffer unchanged
 unfoldable pub written : Said → List ℕ → List ℕ → Outcome
-written accepted new buffer = record { answer = accepted; written = length new; buffer = over new buffer }
-written (refused n place) new buffer = record { answer = refused n place; written = 0; buffer = buffer }
+written accepted new buffer = record { answer = accepted; size = length new; buffer = over new buffer }
+written (refused n place) new buffer = record { answer = refused n place; size = 0; buffer = buffer }
 
 -- output buffer shorter than the output
 unfoldable pub roomFor : List ℕ → List ℕ → Said
@@ -60,7 +60,7 @@ trayAnswer header tray = andThen (require (eqb (length header) 94 && eqb (length
 -- when the reading refuses, the bytes that the built file would have taken are all spaces
 unfoldable pub builtAs : Said → List ℕ → List ℕ → Outcome
 builtAs accepted file buffer = written accepted file buffer
-builtAs (refused n place) file buffer = record { answer = refused n place; written = 0; buffer = over (blanks (length file)) buffer }
+builtAs (refused n place) file buffer = record { answer = refused n place; size = 0; buffer = over (blanks (length file)) buffer }
 
 unfoldable pub builtIf : Said → Rules → List ℕ → List ℕ → Outcome
 builtIf (refused n place) rules file buffer = written (refused n place) file buffer

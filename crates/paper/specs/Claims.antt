@@ -40,19 +40,19 @@ pub data Claim : Type 0 where
   builds : Rules → List ℕ → List ℕ → List ℕ → Outcome → Claim
   strips : Rules → List ℕ → List ℕ → Outcome → Claim
 
-abbrev pub Holds : Claim → Type 0
-Holds (characters text) = goodFrom 256 0 ≡ bytes text
-Holds (dates ns) = every isDate ns ≡ true
-Holds (noDates ns) = every (λ n. not (isDate n)) ns ≡ true
-Holds (reads rules file answer) = reading rules file ≡ answer
-Holds (opens date currency entities answer) = opening date currency entities .answer ≡ answer
-Holds (answers s file answer) = presenting s file .answer ≡ answer
-Holds (presents s file answer after) = presenting s file ≡ record { answer = answer; session = after }
-Holds (holds s entities cells) = map (cellOf s) entities ≡ cells
-Holds (prints file text) = positionsOf file ≡ textLines text
-Holds (extracts rules e file buffer outcome) = extracting rules e file buffer ≡ outcome
-Holds (builds rules header tray buffer outcome) = building rules header tray buffer ≡ outcome
-Holds (strips rules file buffer outcome) = stripping rules file buffer ≡ outcome
+abbrev pub IsTrue : Claim → Type 0
+IsTrue (characters text) = goodFrom 256 0 ≡ bytes text
+IsTrue (dates ns) = every isDate ns ≡ true
+IsTrue (noDates ns) = every (λ n. not (isDate n)) ns ≡ true
+IsTrue (reads rules file answer) = reading rules file ≡ answer
+IsTrue (opens date currency entities answer) = opening date currency entities .answer ≡ answer
+IsTrue (answers s file answer) = presenting s file .answer ≡ answer
+IsTrue (presents s file answer after) = presenting s file ≡ record { answer = answer; session = after }
+IsTrue (holds s entities cells) = map (cellOf s) entities ≡ cells
+IsTrue (prints file text) = positionsOf file ≡ textLines text
+IsTrue (extracts rules e file buffer outcome) = extracting rules e file buffer ≡ outcome
+IsTrue (builds rules header tray buffer outcome) = building rules header tray buffer ≡ outcome
+IsTrue (strips rules file buffer outcome) = stripping rules file buffer ≡ outcome
 
 -- a row of a table: the number of its case, and what is claimed
 pub data Row : Type 0 where
@@ -62,7 +62,7 @@ pub data Row : Type 0 where
 infixr 10 _and_
 pub data All : List Row → Type 0 where
   done : All []
-  _and_ : {n : ℕ} {claim : Claim} {rows : List Row} → Holds claim → All rows → All (case n claim ∷ rows)
+  _and_ : {n : ℕ} {claim : Claim} {rows : List Row} → IsTrue claim → All rows → All (case n claim ∷ rows)
 
 -- the rules of a date and a currency, with all entities on the roster
 abbrev pub dated : ℕ → Currency → Rules
@@ -70,7 +70,7 @@ dated date currency = record { date = date; currency = currency; roster = false 
 
 -- so many bytes were written, and the buffer then; or a refusal, and the buffer then
 abbrev pub wrote : ℕ → List ℕ → Outcome
-wrote n buffer = record { answer = accepted; written = n; buffer = buffer }
+wrote n buffer = record { answer = accepted; size = n; buffer = buffer }
 
 abbrev pub gave : ℕ → ℕ → List ℕ → Outcome
-gave n place buffer = record { answer = refused n place; written = 0; buffer = buffer }
+gave n place buffer = record { answer = refused n place; size = 0; buffer = buffer }

@@ -1,5 +1,5 @@
 -- The words in which the three demands are stated.
-use Prim.Native.Nat.{ℕ, zero, suc, _*_, _≤_, _^_}
+use Prim.Native.Nat.{ℕ, zero, suc, _*_, _/_, _≤_, _<_, _^_}
 use mathlib.Core.Path.{_≡_}
 use mathlib.Core.Bool.{Bool, true, false, cond, _||_}
 use mathlib.Core.List.{List, [], _∷_, _++_, map}
@@ -23,7 +23,7 @@ use Rattle.paper.specs.Postings.{Posting, postings, position, sent, rece
 use Rattle.paper.specs.Sessions.{Session, opening, presenting, originOf, identifierOf}
 use Rattle.paper.specs.Writing.{spelled, blanks}
 use Rattle.paper.specs.Extract.{Item, Batch, batchesOf, itemsTo}
-use Rattle.paper.specs.Trays.{batchesAfter, individualsAfter}
+use Rattle.paper.specs.Trays.{batchesAfter, individualsAfter, build}
 
 -- ---- any input ends with an answer
 
@@ -31,22 +31,46 @@ use Rattle.paper.specs.Trays.{batchesAfter, individualsAfter}
 abbrev pub untied : List ℕ
 untied = 201 ∷ 206 ∷ 208 ∷ 209 ∷ []
 
--- a refusal stands at one of so many records, or one past the last; at 0 where its number is tied to no record
-abbrev pub StandsAt : ℕ → Said → Type 0
-StandsAt records accepted = Unit {0}
-StandsAt records (refused n place) = (place ≤ records) × (T (among untied n) → place ≡ 0)
+-- none of the records is a 9
+abbrev pub NoFileControl : List (List ℕ) → Type 0
+NoFileControl [] = Unit {0}
+NoFileControl (r ∷ rs) = (kindOf r ≡ FileControl → ⊥) × NoFileControl rs
 
--- acceptance, or a refusal number of the table with the record it stands at
-abbrev pub Answered : ℕ → Said → Type 0
-Answered records accepted = Unit {0}
-Answered records (refused n place) = T (among tableNumbers n) × StandsAt records (refused n place)
+-- at 0 where the number is tied to no record; else at a record of the file, and one past the last only as 17 where the 9 is missing
+abbrev pub StandsIf : Bool → List ℕ → ℕ → ℕ → Type 0
+StandsIf true file n place = place ≡ 0
+StandsIf false file n place = (place < length file / 94) ⊎ ((place ≡ length file / 94) × (n ≡ 17) × NoFileControl (recordsOf file))
+
+-- where a refusal of a file stands
+abbrev pub StandsAt : List ℕ → Said → Type 0
+StandsAt file accepted = Unit {0}
+StandsAt file (refused n place) = StandsIf (among untied n) file n place
+
+-- where a refusal of an opening stands: at 0, "and so is that of 75 when opening"
+abbrev pub StandsAtNought : Said → Type 0
+StandsAtNought accepted = Unit {0}
+StandsAtNought (refused n place) = place ≡ 0
+
+-- where a refusal of building stands: 207 at 0 or at a record of the tray, all else as of the file that is built
+abbrev pub BuildStandsIf : Bool → List ℕ → List ℕ → ℕ → ℕ → Type 0
+BuildStandsIf true header tray n place = (place ≡ 0) ⊎ (place < length tray / 96)
+BuildStandsIf false header tray n place = StandsAt (build header tray) (refused n place)
+
+abbrev pub BuildStandsAt : List ℕ → List ℕ → Said → Type 0
+BuildStandsAt header tray accepted = Unit {0}
+BuildStandsAt header tray (refused n place) = BuildStandsIf (eqb n 207) header tray n place
+
+-- acceptance, or a refusal number of the table at its place
+abbrev pub Answered : (Said → Type 0) → Said → Type 0
+Answered stands accepted = Unit {0}
+Answered stands (refused n place) = T (among tableNumbers n) × stands (refused n place)
 
 -- ---- exactly when
 
 -- the records from a state on are each without fault, and end with a 9
-abbrev pub Reads : Rules → State → List (List ℕ) → Type 0
-Reads rules s [] = s .before ≡ Ended
-Reads rules s (r ∷ rs) = (judged rules s r ≡ fine) × Reads rules (next s r) rs
+abbrev pub Faultless : Rules → State → List (List ℕ) → Type 0
+Faultless rules s [] = s .before ≡ Ended
+Faultless rules s (r ∷ rs) = (judged rules s r ≡ fine) × Faultless rules (next s r) rs
 
 -- the first fault among them has this number and place
 abbrev pub FirstFault : Rules → State → List (List ℕ) → ℕ → ℕ → Type 0
@@ -56,7 +80,7 @@ FirstFault rules s (r ∷ rs) n place =
 
 -- 01 accepts a file: its length is good, its records are each without fault, and they end with a 9
 abbrev pub Accepts : Rules → List ℕ → Type 0
-Accepts rules file = T (lengthGood (length file)) × Reads rules start (recordsOf file)
+Accepts rules file = T (lengthGood (length file)) × Faultless rules start (recordsOf file)
 
 -- the first fault of a file: 201 at 0 for its length, else that of its records
 abbrev pub Faulty : Rules → List ℕ → ℕ → ℕ → Type 0
@@ -70,10 +94,10 @@ withAccepted accepted files file = files ++ file ∷ []
 withAccepted (refused n place) files file = files
 
 -- a session that came from opening and presenting, and the files accepted when presented, in order
-pub data Came : Session → List (List ℕ) → Type 0 where
-  opened : (date : ℕ) (currency : Currency) (entities : List ℕ) → Came ((opening date currency entities) .session) []
-  presented : {s : Session} {files : List (List ℕ)} → Came s files → (file : List ℕ)
-      → Came ((presenting s file) .session) (withAccepted ((presenting s file) .answer) files file)
+pub data Arose : Session → List (List ℕ) → Type 0 where
+  opened : (date : ℕ) (currency : Currency) (entities : List ℕ) → Arose ((opening date currency entities) .session) []
+  presented : {s : Session} {files : List (List ℕ)} → Arose s files → (file : List ℕ)
+      → Arose ((presenting s file) .session) (withAccepted ((presenting s file) .answer) files file)
 
 -- the individual records of the files, as postings
 unfoldable pub postingsOf : List (List ℕ) → List Posting

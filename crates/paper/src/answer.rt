@@ -94,7 +94,7 @@ impl Answer {
 impl Output {
     // An answer that counts no bytes: a refusal, whatever the buffer holds.
     pub fn unwritten(answer: Answer) -> Output
-        ensures { λ r. ⌜ ((buffer : List ℕ) → told r buffer ≡ record { answer = said answer; written = 0; buffer = buffer }) ⌝ }
+        ensures { λ r. ⌜ ((buffer : List ℕ) → told r buffer ≡ record { answer = said answer; size = 0; buffer = buffer }) ⌝ }
     {
         match answer {
             Answer::Accepted => Output::Accepted(0),

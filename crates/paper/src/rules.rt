@@ -4,11 +4,21 @@ pub enum Currency {
     Dollars,
 }
 
+impl Currency {
+    // Dollars add this to an entity's number in its field.
+    pub const DOLLARS_ADD: u64 = 500;
+}
+
 // The date AAMMDD as the number its digits spell, the currency, and for each entity number whether it is on the roster.
 pub struct Rules {
     pub date: u64,
     pub currency: Currency,
-    pub roster: [bool; 500],
+    pub roster: [bool; Rules::ROSTER],
+}
+
+impl Rules {
+    // Entity numbers are below what dollars add to them: 1 to 499, and 0, which nobody has.
+    pub const ROSTER: usize = Currency::DOLLARS_ADD as usize;
 }
 
 // The date and currency alone, for where the roster is lent beside them.

@@ -1,3 +1,6 @@
 pub mod Chosen
-pub mod Steps
-pub mod Turns
+pub mod Moving
+pub mod Rising
+pub mod Headers
+pub mod Passing
+pub mod Once

@@ -1,2 +1,3 @@
-pub mod Picking
+pub mod Notes
 pub mod Places
+pub mod Picks

@@ -1,10 +1,13 @@
 // One pass over a file: the places of the records that go to one entity, in order.
 ghost use mathlib.Core.Path.{_≡_};
-ghost use Prim.Native.Nat.{_≤_, _<_};
+ghost use Prim.Native.Nat.{ℕ, _<_};
+ghost use mathlib.Core.List.{List};
 ghost use lib.ListN.{length, set};
 ghost use Rattle.paper.specs.Extract.{isTo};
 ghost use Rattle.state.specs.States.{InFile};
-ghost use Rattle.picking.specs.Places.{Read, Placed, Fits, waiting, onward, passed, Stepped, Picks};
+ghost use Rattle.picking.specs.Notes.{headerWaits, recordGoes, recordPasses, notesWith};
+ghost use Rattle.picking.specs.Picks.{Fits, Moves, Picks};
+ghost use Rattle.picking.specs.Places.{Passed};
 use field::entity;
 use field::kind;
 use paper::record::Kind;
@@ -39,13 +42,21 @@ fn is_to(entity: u64, rec: &[u8]) -> bool
     entity::entity(rec, 4, 11) == entity
 }
 
+// One entry, and no other.
+fn note(places: &mut [u16], at: usize, place: usize)
+    requires { ⌜ (at < 10000) × (place < 10000) × (length (now places) ≡ 10000) ⌝ }
+    ensures { λ _. ⌜ now (places .exit) ≡ set (now (places .entry)) at place ⌝ }
+{
+    places[at] = place as u16;
+}
+
 // A batch header waits behind those that go.
 fn waits(picking: Picking, places: &mut [u16], place: usize) -> Picking
-    requires { ⌜ (picking .count ≤ place) × (place < 10000) × (length (now places) ≡ 10000) ⌝ }
-    ensures { λ r. ⌜ (r ≡ waiting picking) × (now (places .exit) ≡ set (now (places .entry)) (picking .count) place) ⌝ }
+    requires { ⌜ Fits place picking × (place < 10000) × (length (now places) ≡ 10000) ⌝ }
+    ensures { λ r. ⌜ Moves (headerWaits place) (now (places .entry)) picking (now (places .exit)) r ⌝ }
 {
     let count = picking.count;
-    places[count] = place as u16;
+    note(places, count, place);
     Picking {
         count,
         next: count + 1,
@@ -57,10 +68,10 @@ fn waits(picking: Picking, places: &mut [u16], place: usize) -> Picking
 // A record goes, and with it what waits.
 fn goes(picking: Picking, places: &mut [u16], place: usize) -> Picking
     requires { ⌜ Fits place picking × (place < 10000) × (length (now places) ≡ 10000) ⌝ }
-    ensures { λ r. ⌜ (r ≡ onward picking) × (now (places .exit) ≡ set (now (places .entry)) (picking .next) place) ⌝ }
+    ensures { λ r. ⌜ Moves (recordGoes place) (now (places .entry)) picking (now (places .exit)) r ⌝ }
 {
     let next = picking.next;
-    places[next] = place as u16;
+    note(places, next, place);
     Picking {
         count: next + 1,
         next: next + 1,
@@ -71,7 +82,7 @@ fn goes(picking: Picking, places: &mut [u16], place: usize) -> Picking
 
 // An individual record to somebody else; what waits, waits on.
 fn passes(picking: Picking) -> Picking
-    ensures { λ r. ⌜ r ≡ passed picking ⌝ }
+    ensures { λ r. ⌜ ((places : List ℕ) → Moves recordPasses places picking places r) ⌝ }
 {
     Picking {
         count: picking.count,
@@ -83,9 +94,8 @@ fn passes(picking: Picking) -> Picking
 
 // One record further.
 fn step(picking: Picking, entity: u64, file: &[u8], place: usize, places: &mut [u16]) -> Picking
-    requires { ⌜ InFile (now file) place ⌝ }
-    requires { ⌜ Fits place picking × Placed (now file) (now places) × (length (now places) ≡ 10000) ⌝ }
-    ensures { λ r. ⌜ Stepped entity (now (file .entry)) place (now (places .entry)) picking (now (places .exit)) r ⌝ }
+    requires { ⌜ InFile (now file) place × Fits place picking × (length (now places) ≡ 10000) ⌝ }
+    ensures { λ r. ⌜ Moves (notesWith entity (now (file .entry)) place) (now (places .entry)) picking (now (places .exit)) r ⌝ }
 {
     let rec = state::record_at(file, place);
     match kind::kind(rec) {
@@ -107,11 +117,12 @@ fn step(picking: Picking, entity: u64, file: &[u8], place: usize, places: &mut [
 }
 
 // Of a file that the reading accepted.
-pub fn pick(entity: u64, file: &[u8], places: &mut [u16]) -> Picked
-    requires { ⌜ Read (now file) ⌝ }
-    requires { ⌜ Placed (now file) (now places) × (length (now places) ≡ 10000) ⌝ }
-    ensures { λ r. ⌜ Picks entity (now (file .entry)) r (now (places .exit)) ⌝ }
+pub fn pick(entity: u64, file: &[u8], places: &mut [u16; Picked::MOST]) -> Picked
+    requires { ⌜ Passed (now file) ⌝ }
+    ensures { λ r. ⌜ Picks entity (now (file .entry)) (now (places .entry)) r (now (places .exit)) ⌝ }
 {
+    // as a slice, since its length is then known
+    let held = &mut places[..];
     let records = file.len() / State::RECORD;
     let mut picking = Picking {
         count: 0,
@@ -121,7 +132,7 @@ pub fn pick(entity: u64, file: &[u8], places: &mut [u16]) -> Picked
     };
     let mut place: usize = 0;
     while place < records {
-        picking = step(picking, entity, file, place, places);
+        picking = step(picking, entity, file, place, held);
         place += 1;
     }
     Picked {

@@ -1,5 +1,5 @@
 // Prints the positions that the file on standard input makes, or why it is refused.
-use listing::lines::Listing;
+use listing::Listing;
 
 // One byte more than the program takes shows that there was more.
 const PAST_LIMIT: usize = Listing::INPUT + 1;

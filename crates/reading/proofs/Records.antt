@@ -18,7 +18,7 @@ use Rattle.paper.proofs.Tests.{and-l, and-r, T-of, of-T}
 use Rattle.paper.proofs.Exactly.{wrong-not-fine}
 use Rattle.paper.proofs.Accepted.{Follows, follows, file-begins, batch-opens, file-ends, first-individual, its-additional, next-individual, batch-closes}
 use Rattle.state.specs.declared.State.{State}
-use Rattle.state.specs.States.{recordAt, meant, stops, outcome, stepped, Standing}
+use Rattle.state.specs.States.{recordAt, meant, stops, afterRecord, stepped, Preceded}
 use Rattle.reading.specs.Taken.{taken}
 
 -- ---- characters
@@ -54,8 +54,8 @@ inBatch BatchControl = true
 inBatch FileControl = false
 inBatch Other = false
 
-header-stands : {b : Before} {k : Kind} (place : ℕ) (st : State) → T (inBatch k) → Follows b k → Standing b place st → st .header < place
-unfolding Standing
+header-stands : {b : Before} {k : Kind} (place : ℕ) (st : State) → T (inBatch k) → Follows b k → Preceded b place st → st .header < place
+unfolding Preceded
 header-stands place st h file-begins s = absurd h
 header-stands place st h batch-opens s = absurd h
 header-stands place st h file-ends s = absurd h
@@ -65,8 +65,8 @@ header-stands place st h next-individual s = s
 header-stands place st h batch-closes s = s
 
 -- an additional record stands after its individual one
-individual-stands : (b : Before) (place : ℕ) (st : State) → allowed b Additional ≡ fine → Standing b place st → st .individual < place
-unfolding allowed Standing
+individual-stands : (b : Before) (place : ℕ) (st : State) → allowed b Additional ≡ fine → Preceded b place st → st .individual < place
+unfolding allowed Preceded
 individual-stands Nothing place st h s = absurd (wrong-not-fine h)
 individual-stands Between place st h s = absurd (wrong-not-fine h)
 individual-stands Opened place st h s = absurd (wrong-not-fine h)
@@ -76,7 +76,7 @@ individual-stands Ended place st h s = absurd (wrong-not-fine h)
 
 -- what a record's step asks, by the kind that it turned out to be
 module _ (file : List ℕ) (place : ℕ) (st : State) {kind is : Kind} (told : kindOf (recordAt file place) ≡ kind) (may : allowed (st .before) kind ≡ fine)
-    (s : Standing (st .before) place st) (e : kind ≡ is) where
+    (s : Preceded (st .before) place st) (e : kind ≡ is) where
   pub of-kind : kindOf (recordAt file place) ≡ is
   of-kind = told ∙ e
 
@@ -101,5 +101,5 @@ module _ (rules : Rules) (file : List ℕ) (place : ℕ) (st : State) where
   stands h = rw h
 
   pub falls : {n : ℕ} → first file place st ≡ wrong n → stops n ≡ taken rules file place st
-  unfolding outcome judged meant _also_
+  unfolding afterRecord judged meant _also_
   falls h = rw h

@@ -18,27 +18,27 @@ use Rattle.paper.proofs.Tests.{T-of, within-range, and-l}
 use Rattle.paper.proofs.Places.{parts-from}
 use Rattle.paper.proofs.Lists.{length-parts}
 use Rattle.state.specs.declared.State.{State}
-use Rattle.state.specs.States.{recordAt, meant, goes, stops, outcome}
+use Rattle.state.specs.States.{recordAt, meant, goes, stops, afterRecord}
 
 -- ---- outcomes
 
 stop-not-go : {n : ℕ} {s : paper.State} → stops n ≡ goes s → ⊥
 stop-not-go h = let z : _≡_ {A = ℕ} 0 1 = cc in omega arith
 
-pub went : (c : Check) (s : paper.State) {t : paper.State} → outcome c s ≡ goes t → (c ≡ fine) × (s ≡ t)
-unfolding outcome
+pub went : (c : Check) (s : paper.State) {t : paper.State} → afterRecord c s ≡ goes t → (c ≡ fine) × (s ≡ t)
+unfolding afterRecord
 went fine s h = (refl, cc)
 went (wrong n) s h = absurd (stop-not-go h)
 
-pub stopped : (c : Check) (s : paper.State) {n : ℕ} → outcome c s ≡ stops n → c ≡ wrong n
-unfolding outcome
+pub stopped : (c : Check) (s : paper.State) {n : ℕ} → afterRecord c s ≡ stops n → c ≡ wrong n
+unfolding afterRecord
 stopped fine s h = absurd (stop-not-go (sym h))
 stopped (wrong m) s {n} h = let e : m ≡ n = cc in ap wrong e
 
 -- ---- records from a place on
 
 module _ (rules : Rules) (file : List ℕ) (n i : ℕ) (s : paper.State) where
-  pub go-on : {t : paper.State} → i < n → outcome (judged rules s (recordAt file i)) (next s (recordAt file i)) ≡ goes t
+  pub go-on : {t : paper.State} → i < n → afterRecord (judged rules s (recordAt file i)) (next s (recordAt file i)) ≡ goes t
       → readingFrom rules s (drop i (parts 94 n file)) ≡ readingFrom rules t (drop (i + 1) (parts 94 n file))
   unfolding recordAt readingFrom at andThen
   go-on h e =
@@ -47,7 +47,7 @@ module _ (rules : Rules) (file : List ℕ) (n i : ℕ) (s : paper.State) where
       let k : i + 1 ≡ suc i = omega arith in
       rw (k, parts-from 94 n file i h, p .0, p .1)
 
-  pub stop-here : {m : ℕ} → i < n → outcome (judged rules s (recordAt file i)) (next s (recordAt file i)) ≡ stops m
+  pub stop-here : {m : ℕ} → i < n → afterRecord (judged rules s (recordAt file i)) (next s (recordAt file i)) ≡ stops m
       → readingFrom rules s (drop i (parts 94 n file)) ≡ refused m (s .counts .place)
   unfolding recordAt readingFrom at andThen
   stop-here h e =

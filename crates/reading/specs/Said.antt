@@ -6,9 +6,9 @@ use Rattle.reading.specs.declared.Reading.{Reading}
 use Rattle.reading.specs.declared.Reading.the-variants.{Accepted, Refused}
 
 -- in the paper's numbers
-unfoldable pub said : Reading → Said
-said (Accepted records) = accepted
-said (Refused fault place) = refused (numberOf fault) place
+unfoldable pub readingSays : Reading → Said
+readingSays (Accepted records) = accepted
+readingSays (Refused fault place) = refused (numberOf fault) place
 
 -- an acceptance carries the number of records
 unfoldable pub Carries : ℕ → Reading → Type 0

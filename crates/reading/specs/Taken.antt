@@ -4,8 +4,8 @@ use mathlib.Core.List.{List}
 use Rattle.paper.specs.declared.rules.Rules.{Rules}
 use Rattle.paper.specs.Reading.{judged, next}
 use Rattle.state.specs.declared.State.{State}
-use Rattle.state.specs.States.{recordAt, meant, Outcome, outcome}
+use Rattle.state.specs.States.{recordAt, meant, AfterRecord, afterRecord}
 
-abbrev pub taken : Rules → List ℕ → ℕ → State → Outcome
+abbrev pub taken : Rules → List ℕ → ℕ → State → AfterRecord
 taken rules file place st =
-    outcome (judged rules (meant file place st) (recordAt file place)) (next (meant file place st) (recordAt file place))
+    afterRecord (judged rules (meant file place st) (recordAt file place)) (next (meant file place st) (recordAt file place))

@@ -7,9 +7,9 @@ ghost use Rattle.paper.specs.Checks.{fine};
 ghost use Rattle.paper.specs.Fields.{every, good};
 ghost use Rattle.paper.specs.Kinds.{kindOf, allowed};
 ghost use Rattle.paper.specs.Reading.{finish, lengthGood, reading};
-ghost use Rattle.state.specs.States.{recordAt, heard, stepped, InFile, Room, Standing, Kept};
+ghost use Rattle.state.specs.States.{recordAt, stepSays, stepped, InFile, Room, Preceded, Kept};
 ghost use Rattle.record.specs.Verdicts.{under};
-ghost use Rattle.reading.specs.Said.{said, Carries};
+ghost use Rattle.reading.specs.Said.{readingSays, Carries};
 ghost use Rattle.reading.specs.Taken.{taken};
 use field::kind;
 use field::number;
@@ -17,6 +17,7 @@ use field::text;
 use paper::answer::Fault;
 use paper::record::Before;
 use paper::record::Kind;
+use paper::rules::Rules;
 use paper::rules::Terms;
 use record::order;
 use record::verdict::Verdict;
@@ -36,16 +37,17 @@ pub enum Reading {
 }
 
 impl Reading {
-    // Bytes of a file, at least and at most.
-    pub const SHORTEST: u64 = 188;
-
-    pub const LONGEST: u64 = 940000;
+    // Bytes of a file, at least: a header and a control.
+    pub const SHORTEST: usize = 2 * State::RECORD;
+    // At most.
+    pub const LONGEST: usize = State::MOST * State::RECORD;
 }
 
 fn length_good(n: usize) -> bool
     ensures { λ r. ⌜ r ≡ lengthGood n ⌝ }
 {
-    number::within(Reading::SHORTEST, Reading::LONGEST, n as u64) & (n % State::RECORD == 0)
+    number::within(Reading::SHORTEST as u64, Reading::LONGEST as u64, n as u64)
+        & (n % State::RECORD == 0)
 }
 
 // Where the characters of the whole file are good, those of a record are.
@@ -62,7 +64,7 @@ fn characters(clean: bool, rec: &[u8]) -> bool
 // A record's fields, by its type. One of no type may stand nowhere.
 fn fields(
     terms: Terms,
-    roster: &[bool; 500],
+    roster: &[bool; Rules::ROSTER],
     file: &[u8],
     place: usize,
     kind: Kind,
@@ -71,8 +73,8 @@ fn fields(
     requires { ⌜ InFile (now file) place ⌝ }
     requires { ⌜ kindOf (recordAt (now file) place) ≡ kind ⌝ }
     requires { ⌜ allowed (state .before) kind ≡ fine ⌝ }
-    requires { ⌜ Room place state × Standing (state .before) place state ⌝ }
-    ensures { λ r. ⌜ (heard (now (file .entry)) (place + 1) r ≡ stepped (under terms (now (roster .entry))) (now (file .entry)) place state) × Kept (place + 1) r ⌝ }
+    requires { ⌜ Room place state × Preceded (state .before) place state ⌝ }
+    ensures { λ r. ⌜ (stepSays (now (file .entry)) (place + 1) r ≡ stepped (under terms (now (roster .entry))) (now (file .entry)) place state) × Kept (place + 1) r ⌝ }
 {
     match kind {
         Kind::FileHeader => file_header::step(terms, roster, file, place, state),
@@ -88,7 +90,7 @@ fn fields(
 // One record: its characters, whether its type may stand here, then its fields.
 fn step(
     terms: Terms,
-    roster: &[bool; 500],
+    roster: &[bool; Rules::ROSTER],
     file: &[u8],
     clean: bool,
     place: usize,
@@ -96,8 +98,8 @@ fn step(
 ) -> Step
     requires { ⌜ InFile (now file) place ⌝ }
     requires { ⌜ (clean ≡ true → every good (now file) ≡ true) ⌝ }
-    requires { ⌜ Room place state × Standing (state .before) place state ⌝ }
-    ensures { λ r. ⌜ (heard (now (file .entry)) (place + 1) r ≡ taken (under terms (now (roster .entry))) (now (file .entry)) place state) × Kept (place + 1) r ⌝ }
+    requires { ⌜ Room place state × Preceded (state .before) place state ⌝ }
+    ensures { λ r. ⌜ (stepSays (now (file .entry)) (place + 1) r ≡ taken (under terms (now (roster .entry))) (now (file .entry)) place state) × Kept (place + 1) r ⌝ }
 {
     let rec = state::record_at(file, place);
     let kind = kind::kind(rec);
@@ -113,7 +115,7 @@ fn step(
 
 // Records that end before a file control are wrong one past the last.
 fn finish(before: Before, records: usize) -> Reading
-    ensures { λ r. ⌜ (said r ≡ finish before records) × Carries records r ⌝ }
+    ensures { λ r. ⌜ (readingSays r ≡ finish before records) × Carries records r ⌝ }
 {
     match before {
         Before::Ended => Reading::Accepted(records),
@@ -121,8 +123,8 @@ fn finish(before: Before, records: usize) -> Reading
     }
 }
 
-pub fn read(terms: Terms, roster: &[bool; 500], file: &[u8]) -> Reading
-    ensures { λ r. ⌜ (said r ≡ reading (under terms (now (roster .entry))) (now (file .entry))) × Carries (length (now (file .entry)) / 94) r ⌝ }
+pub fn read(terms: Terms, roster: &[bool; Rules::ROSTER], file: &[u8]) -> Reading
+    ensures { λ r. ⌜ (readingSays r ≡ reading (under terms (now (roster .entry))) (now (file .entry))) × Carries (length (now (file .entry)) / 94) r ⌝ }
 {
     if !length_good(file.len()) {
         return Reading::Refused(Fault::Length, 0);

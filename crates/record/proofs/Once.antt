@@ -5,10 +5,10 @@ use Rattle.paper.proofs.Exactly.{wrong-not-fine}
 use Rattle.paper.proofs.Numbers.{own-number}
 use Rattle.record.specs.declared.verdict.Verdict.{Verdict}
 use Rattle.record.specs.declared.verdict.Verdict.the-variants.{Right, Wrong}
-use Rattle.record.specs.Verdicts.{told}
+use Rattle.record.specs.Verdicts.{checkOf}
 
-pub verdict-once : (a b : Verdict) → told a ≡ told b → a ≡ b
-unfolding told
+pub verdict-once : (a b : Verdict) → checkOf a ≡ checkOf b → a ≡ b
+unfolding checkOf
 verdict-once Right Right h = refl
 verdict-once Right (Wrong g) h = absurd (wrong-not-fine (sym h))
 verdict-once (Wrong f) Right h = absurd (wrong-not-fine h)

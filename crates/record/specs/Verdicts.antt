@@ -8,9 +8,9 @@ use Rattle.paper.specs.Checks.{Check, fine, wrong}
 use Rattle.record.specs.declared.verdict.Verdict.{Verdict}
 use Rattle.record.specs.declared.verdict.Verdict.the-variants.{Right, Wrong}
 
-unfoldable pub told : Verdict → Check
-told Right = fine
-told (Wrong fault) = wrong (numberOf fault)
+unfoldable pub checkOf : Verdict → Check
+checkOf Right = fine
+checkOf (Wrong fault) = wrong (numberOf fault)
 
 abbrev pub under : Terms → List Bool → Rules
 under terms roster = record { date = terms .date; currency = terms .currency; roster = roster }

@@ -4,25 +4,26 @@ ghost use Prim.Native.Nat.{_+_};
 ghost use Rattle.paper.specs.Fields.{field};
 ghost use Rattle.paper.specs.Records.{member, memberField};
 ghost use Rattle.field.specs.Part.{Inside};
-ghost use Rattle.record.specs.Verdicts.{told};
+ghost use Rattle.record.specs.Verdicts.{checkOf};
 use crate::verdict::Verdict;
 use field::entity;
 use paper::answer::Fault;
 use paper::rules::Currency;
+use paper::rules::Rules;
 
 // From the first of its eight positions to the last. Written out below, so that the compiler knows the width; `last` is for the reader.
 const TO_LAST: usize = 7;
 
 pub fn member(
     currency: Currency,
-    roster: &[bool; 500],
+    roster: &[bool; Rules::ROSTER],
     rec: &[u8],
     first: usize,
     last: usize,
 ) -> Verdict
     requires { ⌜ Inside (now rec) first last ⌝ }
     requires { ⌜ last ≡ first + 7 ⌝ }
-    ensures { λ r. ⌜ told r ≡ member currency (now (roster .entry)) (field (now (rec .entry)) first last) ⌝ }
+    ensures { λ r. ⌜ checkOf r ≡ member currency (now (roster .entry)) (field (now (rec .entry)) first last) ⌝ }
 {
     let end = first + TO_LAST;
     Verdict::Right
@@ -35,14 +36,14 @@ pub fn member(
 
 pub fn member_field(
     currency: Currency,
-    roster: &[bool; 500],
+    roster: &[bool; Rules::ROSTER],
     rec: &[u8],
     first: usize,
     last: usize,
 ) -> Verdict
     requires { ⌜ Inside (now rec) first last ⌝ }
     requires { ⌜ last ≡ first + 7 ⌝ }
-    ensures { λ r. ⌜ told r ≡ memberField currency (now (roster .entry)) (field (now (rec .entry)) first last) ⌝ }
+    ensures { λ r. ⌜ checkOf r ≡ memberField currency (now (roster .entry)) (field (now (rec .entry)) first last) ⌝ }
 {
     let end = first + TO_LAST;
     Verdict::Right

@@ -1,14 +1,14 @@
 // What may stand after what.
 ghost use mathlib.Core.Path.{_≡_};
 ghost use Rattle.paper.specs.Kinds.{allowed};
-ghost use Rattle.record.specs.Verdicts.{told};
+ghost use Rattle.record.specs.Verdicts.{checkOf};
 use crate::verdict::Verdict;
 use paper::answer::Fault;
 use paper::record::Before;
 use paper::record::Kind;
 
 pub fn allowed(before: Before, kind: Kind) -> Verdict
-    ensures { λ r. ⌜ told r ≡ allowed before kind ⌝ }
+    ensures { λ r. ⌜ checkOf r ≡ allowed before kind ⌝ }
 {
     match before {
         Before::Nothing => match kind {

@@ -2,7 +2,7 @@
 ghost use mathlib.Core.Path.{_≡_};
 ghost use Rattle.paper.specs.Answers.{numberOf};
 ghost use Rattle.paper.specs.Checks.{need, _also_};
-ghost use Rattle.record.specs.Verdicts.{told};
+ghost use Rattle.record.specs.Verdicts.{checkOf};
 use paper::answer::Fault;
 
 pub enum Verdict {
@@ -13,7 +13,7 @@ pub enum Verdict {
 impl Verdict {
     // The verdict so far, or this fault where the test fails and it is the first.
     pub fn need(self, holds: bool, fault: Fault) -> Verdict
-        ensures { λ r. ⌜ told r ≡ told self also need holds (numberOf fault) ⌝ }
+        ensures { λ r. ⌜ checkOf r ≡ checkOf self also need holds (numberOf fault) ⌝ }
     {
         match self {
             Verdict::Right => {
@@ -29,7 +29,7 @@ impl Verdict {
 
     // The verdict so far, or the one on the fields that follow.
     pub fn also(self, following: Verdict) -> Verdict
-        ensures { λ r. ⌜ told r ≡ told self also told following ⌝ }
+        ensures { λ r. ⌜ checkOf r ≡ checkOf self also checkOf following ⌝ }
     {
         match self {
             Verdict::Right => following,

@@ -10,10 +10,10 @@ use Rattle.paper.proofs.Numbers.{own-number}
 use Rattle.state.specs.declared.State.{State}
 use Rattle.state.specs.declared.Step.{Step}
 use Rattle.state.specs.declared.Step.the-variants.{Next, Stop}
-use Rattle.state.specs.States.{Outcome, goes, stops, meant, heard, Held}
+use Rattle.state.specs.States.{AfterRecord, goes, stops, meant, stepSays, Held}
 
 -- the state that an outcome goes on with
-abbrev stateIn : paper.State → Outcome → paper.State
+abbrev stateIn : paper.State → AfterRecord → paper.State
 stateIn s (goes t) = t
 stateIn s (stops n) = s
 
@@ -29,9 +29,9 @@ holding s header individual = record {
   closed = s .counts .closed;
 }
 
-pub step-once : (file : List ℕ) (kind : Kind) (place : ℕ) (st : State) (a b : Step) → heard file (place + 1) a ≡ heard file (place + 1) b
+pub step-once : (file : List ℕ) (kind : Kind) (place : ℕ) (st : State) (a b : Step) → stepSays file (place + 1) a ≡ stepSays file (place + 1) b
     → Held kind place st a → Held kind place st b → a ≡ b
-unfolding heard Held meant
+unfolding stepSays Held meant
 step-once file kind place st (Next x) (Next y) h p q =
     let s : meant file (place + 1) x ≡ meant file (place + 1) y = ap (stateIn (meant file place st)) h in
     ap (λ (s : paper.State). Next (holding s (x .header) (x .individual))) s

@@ -11,7 +11,7 @@ use Rattle.paper.specs.Kinds.{kindOf}
 use Rattle.paper.specs.Reading as paper
 use Rattle.paper.specs.Reading.{fields, next, beforeNext, lastIndividual, counted, flag}
 use Rattle.state.specs.declared.State.{State}
-use Rattle.state.specs.States.{recordAt, meant, goes, stops, outcome, stepped, Standing, Room}
+use Rattle.state.specs.States.{recordAt, meant, goes, stops, afterRecord, stepped, Preceded, Room}
 use Rattle.state.specs.Bounds.{Below}
 use Rattle.state.proofs.Bounds.{below-more}
 
@@ -26,16 +26,16 @@ after kind s r = record {
 module _ (rules : Rules) (file : List ℕ) (place : ℕ) (st : State) (kind : Kind) (is : kindOf (recordAt file place) ≡ kind) where
   pub goes-on : {s : paper.State} → fields kind rules (meant file place st) (recordAt file place) ≡ fine
       → s ≡ after kind (meant file place st) (recordAt file place) → goes s ≡ stepped rules file place st
-  unfolding stepped outcome next
+  unfolding stepped afterRecord next
   goes-on e h = rw (is, e, h)
 
   pub stops-at : {n : ℕ} → fields kind rules (meant file place st) (recordAt file place) ≡ wrong n → stops n ≡ stepped rules file place st
-  unfolding stepped outcome
+  unfolding stepped afterRecord
   stops-at e = rw (is, e)
 
 -- after an individual record
-pub standing-flagged : (b : Bool) (place : ℕ) (st : State) → st .header < place → st .individual < place → Standing (flag b) place st
-unfolding Standing flag
+pub standing-flagged : (b : Bool) (place : ℕ) (st : State) → st .header < place → st .individual < place → Preceded (flag b) place st
+unfolding Preceded flag
 standing-flagged true place st h i = (h, i)
 standing-flagged false place st h i = h
 

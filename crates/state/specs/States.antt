@@ -37,18 +37,18 @@ meant file place st = record {
 }
 
 -- the state after a record without fault, or the number of its first
-pub data Outcome : Type 0 where
-  goes : paper.State → Outcome
-  stops : ℕ → Outcome
+pub data AfterRecord : Type 0 where
+  goes : paper.State → AfterRecord
+  stops : ℕ → AfterRecord
 
-unfoldable pub outcome : Check → paper.State → Outcome
-outcome fine s = goes s
-outcome (wrong n) s = stops n
+unfoldable pub afterRecord : Check → paper.State → AfterRecord
+afterRecord fine s = goes s
+afterRecord (wrong n) s = stops n
 
 -- what a step says, at the next record's place
-unfoldable pub heard : List ℕ → ℕ → Step → Outcome
-heard file place (Next st) = goes (meant file place st)
-heard file place (Stop fault) = stops (numberOf fault)
+unfoldable pub stepSays : List ℕ → ℕ → Step → AfterRecord
+stepSays file place (Next st) = goes (meant file place st)
+stepSays file place (Stop fault) = stops (numberOf fault)
 
 -- room: each of the records before this place adds at most ten digits
 pub record Room (place : ℕ) (st : State) : Type 0 where
@@ -57,17 +57,17 @@ pub record Room (place : ℕ) (st : State) : Type 0 where
   pub closed : Below (10 ^ 14 * place) (st .closed)
 
 -- in a batch its header stands before this place, and after a flagged individual so does that one
-unfoldable pub Standing : Before → ℕ → State → Type 0
-Standing Nothing place st = Unit {0}
-Standing Between place st = Unit {0}
-Standing Opened place st = st .header < place
-Standing Flagged place st = (st .header < place) × (st .individual < place)
-Standing Inside place st = st .header < place
-Standing Ended place st = Unit {0}
+unfoldable pub Preceded : Before → ℕ → State → Type 0
+Preceded Nothing place st = Unit {0}
+Preceded Between place st = Unit {0}
+Preceded Opened place st = st .header < place
+Preceded Flagged place st = (st .header < place) × (st .individual < place)
+Preceded Inside place st = st .header < place
+Preceded Ended place st = Unit {0}
 
 -- what a step keeps for the next
 unfoldable pub Kept : ℕ → Step → Type 0
-Kept place (Next st) = Room place st × Standing (st .before) place st
+Kept place (Next st) = Room place st × Preceded (st .before) place st
 Kept place (Stop fault) = Unit {0}
 
 -- a file that is not too long has a record at this place
@@ -75,9 +75,9 @@ abbrev pub InFile : List ℕ → ℕ → Type 0
 InFile file place = (length file ≤ 940000) × (place * 94 + 94 ≤ length file)
 
 -- what the record at a place comes to, where its characters are good and its type may stand there
-unfoldable pub stepped : Rules → List ℕ → ℕ → State → Outcome
+unfoldable pub stepped : Rules → List ℕ → ℕ → State → AfterRecord
 stepped rules file place st =
-    outcome
+    afterRecord
     (paper.fields (kindOf (recordAt file place)) rules (meant file place st) (recordAt file place))
     (paper.next (meant file place st) (recordAt file place))
 

@@ -5,6 +5,8 @@ use mathlib.Core.List.{List, [], _∷_, _++_}
 use mathlib.Core.Path.{_≡_, refl, sym, ap, _∙_}
 use native.Mathlib.Nat.{zero-add, add-zero, suc-add, add-assoc, zero-mul, suc-mul}
 use native.Mathlib.Omega.{arith}
+use borrow.Author.Tests.{leb-true, leb-false}
+use lib.Dec.{leb}
 use lib.ListN.{length, take, drop, length-append, length-drop}
 use lib.Seq.{take-append-le, drop-append-le}
 use Rattle.paper.specs.Answers.{Said, accepted, refused, andThen, require}
@@ -12,7 +14,7 @@ use Rattle.paper.specs.Reading.{parts}
 use Rattle.paper.specs.Trays.{trayRecords, trayRecordGood, trayFault}
 use Rattle.paper.proofs.Refusals.{refused-not, and-then-assoc}
 use Rattle.tray.specs.declared.pieces.Pieces.{Pieces}
-use Rattle.tray.specs.Seen.{Seen, ReadOn}
+use Rattle.tray.specs.Seen.{mostSeen, SeenWhole, Seen, ReadOn}
 use Rattle.tray.proofs.Places.{length-records}
 
 -- ---- records one after another
@@ -78,11 +80,22 @@ pub fault-pieces : (i : ℕ) (a b : List ℕ) → length a % 96 ≡ 0
 fault-pieces i a b h = ap (trayFault i) (records-append a b h) ∙ fault-append (trayRecords a) (trayRecords b) i ∙ rw length-records refl
 
 -- so what is known of some pieces, all but the last of whole records, is what is known of them joined
-pub seen-on : (p r : Pieces) (tray piece : List ℕ) → Seen p tray → p .left ≡ 0 → ReadOn p piece r → Seen r (tray ++ piece)
-seen-on p r tray piece s none o =
-    let whole : length tray % 96 ≡ 0 = sym (s .2) ∙ none in (
-      o .0
-          ∙ rw (s .0, s .1) (sym (rw zero-add at (fault-pieces 0 tray piece whole))),
-      o .1 ∙ omega (arith, s .1, length-append tray piece),
-      o .2 ∙ omega (arith, length-append tray piece),
-    )
+pub seen-on : (p r : Pieces) (tray piece : List ℕ) → Seen p tray → length tray % 96 ≡ 0 → ReadOn p piece r → Seen r (tray ++ piece)
+seen-on p r tray piece s none o = go (leb (p .records) mostSeen) refl
+  where
+    go : (b : Bool) → leb (p .records) mostSeen ≡ b → Seen r (tray ++ piece)
+    go true e =
+        let l : p .records ≤ mostSeen = leb-true _ _ e in
+        let w = s .whole l in
+        let m = o .further l in
+        let joined : SeenWhole r (tray ++ piece) =
+        record {
+          faults = m .faults ∙ rw (w .faults, w .records) (sym (rw zero-add at (fault-pieces 0 tray piece none)));
+          records = m .records ∙ omega (arith, w .records, length-append tray piece);
+          left = m .left ∙ omega (arith, length-append tray piece);
+        } in
+        record { whole = λ n. joined; endless = λ n. omega (arith, joined .records) }
+    go false e =
+        let l : mostSeen < p .records = leb-false _ _ e in
+        let same : r .records ≡ p .records = ap (λ (x : Pieces). x .records) (o .stays l) in
+        record { whole = λ n. absurd (omega arith); endless = λ n. omega (arith, s .endless l, length-append tray piece) }

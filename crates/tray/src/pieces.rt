@@ -1,13 +1,10 @@
 // A tray that no buffer holds, and no file can be built from: looked at in pieces of whole records, it is 207, else 201.
 ghost use mathlib.Core.Path.{_≡_};
-ghost use mathlib.Core.Bool.{_&&_};
 ghost use mathlib.Core.List.{[]};
-ghost use Prim.Native.Nat.{_^_, _≤_};
-ghost use lib.Dec.{eqb};
-ghost use lib.ListN.{length};
-ghost use Rattle.paper.specs.Answers.{said, andThen, require, refused};
+ghost use Prim.Native.Nat.{_≤_};
+ghost use Rattle.paper.specs.Answers.{said, andThen};
 ghost use Rattle.paper.specs.Trays.{trayRecords, trayFault};
-ghost use Rattle.tray.specs.Seen.{Seen, ReadOn};
+ghost use Rattle.tray.specs.Seen.{mostSeen, Seen, ReadOn, Tells};
 use crate::Tray;
 use crate::fault;
 use paper::answer::Answer;
@@ -24,9 +21,15 @@ pub struct Pieces {
     pub left: usize,
 }
 
+// What can be told of a tray after all its pieces.
+pub enum Known {
+    Answered(Answer),
+    Endless,
+}
+
 // A fault found before stays the answer; the piece begins after so many records.
 fn first_bad(before: Answer, records: usize, piece: &[u8]) -> Answer
-    requires { ⌜ records ≤ 2 ^ 60 ⌝ }
+    requires { ⌜ records ≤ mostSeen ⌝ }
     ensures { λ r. ⌜ said r ≡ andThen (said before) (trayFault records (trayRecords (now (piece .entry)))) ⌝ }
 {
     let found = match fault(piece) {
@@ -37,6 +40,9 @@ fn first_bad(before: Answer, records: usize, piece: &[u8]) -> Answer
 }
 
 impl Pieces {
+    // More bytes than 64 bits can count: no tray in memory and no file has so many records.
+    pub const MOST: usize = 1 << 60;
+
     pub fn begun() -> Pieces
         ensures { λ r. ⌜ Seen r [] ⌝ }
     {
@@ -49,9 +55,11 @@ impl Pieces {
 
     // The next piece of the tray.
     pub fn read(self, piece: &[u8]) -> Pieces
-        requires { ⌜ self .records ≤ 2 ^ 60 ⌝ }
         ensures { λ r. ⌜ ReadOn self (now (piece .entry)) r ⌝ }
     {
+        if self.records > Pieces::MOST {
+            return self;
+        }
         let before = self.faults;
         let faults = first_bad(before, self.records, piece);
         Pieces {
@@ -62,16 +70,19 @@ impl Pieces {
     }
 
     // The lengths first, then the first bad record, and last 201.
-    pub fn answer(self, header: &[u8]) -> Answer
-        ensures { λ r. ⌜ said r ≡ andThen (require (eqb (length (now (header .entry))) 94 && eqb (self .left) 0) 207 0) (andThen (said (self .faults)) (refused 201 0)) ⌝ }
+    pub fn answer(self, header: &[u8]) -> Known
+        ensures { λ r. ⌜ Tells self (now (header .entry)) r ⌝ }
     {
+        if self.records > Pieces::MOST {
+            return Known::Endless;
+        }
         if header.len() != State::RECORD {
-            return Answer::Refused(Fault::Tray, 0);
+            return Known::Answered(Answer::Refused(Fault::Tray, 0));
         }
         if self.left != 0 {
-            return Answer::Refused(Fault::Tray, 0);
+            return Known::Answered(Answer::Refused(Fault::Tray, 0));
         }
         let faults = self.faults;
-        faults.and_then(Answer::Refused(Fault::Length, 0))
+        Known::Answered(faults.and_then(Answer::Refused(Fault::Length, 0)))
     }
 }

@@ -1,10 +1,10 @@
 -- Numbers as they are typed are the numbers that their digits spell: one too long for the machine is refused, not cut.
-use Prim.Native.Nat.{ℕ, _+_, _-_, _*_, _≤_, _<_}
+use Prim.Native.Nat.{ℕ, _+_, _-_, _*_, _^_, _≤_, _<_}
 use native.Mathlib.Omega.{arith}
 use mathlib.Core.Bool.{Bool, true, false, _&&_, cond, and-false, false≢true}
 use mathlib.Core.List.{List, [], _∷_}
 use mathlib.Core.Path.{_≡_, refl, sym, ap, _∙_}
-use borrow.Author.Tests.{ltb-true, ltb-false, lt-ltb, le-ltb, lt-leb, leb-false, eqb-true}
+use borrow.Author.Tests.{ltb-true, ltb-false, lt-ltb, le-ltb, lt-leb, leb-true, leb-false, eqb-true}
 use lib.Dec.{ltb, leb, eqb}
 use lib.ListN.{length}
 use Rattle.paper.specs.declared.rules.Rules.{Rules}
@@ -12,6 +12,8 @@ use Rattle.paper.specs.Answers.{andThen, require}
 use Rattle.paper.specs.Fields.{within, every, digit, digits, valueFrom, number}
 use Rattle.paper.specs.Dates.{isDate}
 use Rattle.paper.specs.Buffers.{written, entityGiven, extracting}
+use Rattle.paper.proofs.Tests.{T-of}
+use Rattle.paper.proofs.Digits.{digit-range, number-bound, ten-pos}
 use Rattle.field.proofs.Ranges.{over}
 use Rattle.desk.proofs.Rosters.{below-500}
 use Rattle.typed.specs.Words.{dateTyped, grown, grownBy, entityTyped}
@@ -64,6 +66,23 @@ module _ (a b : ℕ) (e : asEntity a ≡ asEntity b) where
 
 -- ---- a word's entity
 
+grown-below : (n b : ℕ) → grown n b < 5000
+unfolding grown
+grown-below n b = go (digit b) (leb n 499) refl refl
+  where
+    go : (d l : Bool) → digit b ≡ d → leb n 499 ≡ l → cond (d && l) (n * 10 + (b - 48)) 500 < 5000
+    go true true e f = let r = digit-range b (T-of e) in let k = leb-true n 499 f in omega arith
+    go true false e f = omega arith
+    go false l e f = omega arith
+
+pub grown-bounded : (n b : ℕ) {r : ℕ} → r ≡ grown n b → (r ≡ grown n b) × (r < 5000)
+grown-bounded n b e = (e, rw e (grown-below n b))
+
+grown-by-below : (word : List ℕ) (n : ℕ) → n < 5000 → grownBy n word < 5000
+unfolding grownBy
+grown-by-below [] n h = h
+grown-by-below (b ∷ bs) n h = grown-by-below bs (grown n b) (grown-below n b)
+
 -- once too high, always too high
 grown-high : (word : List ℕ) (n : ℕ) → 500 ≤ n → asEntity (grownBy n word) ≡ 0
 unfolding grownBy grown
@@ -106,6 +125,11 @@ module _ (word : List ℕ) where
   pub entity-is : within 1 499 (entityTyped word) ≡ true → entityTyped word ≡ number word
   entity-is = alike-is (entityTyped word) (number word) typed-entity
 
+  -- however long the word, it fits
+  pub entity-below : entityTyped word < 5000
+  unfolding entityTyped
+  entity-below = grown-by-below word 0 (omega arith)
+
   -- so the desk extracts for it as for the number, however long
   pub extracting-typed : (rules : Rules) (file buffer : List ℕ) → extracting rules (entityTyped word) file buffer ≡ extracting rules (number word) file buffer
   extracting-typed = alike-extracting (entityTyped word) (number word) typed-entity
@@ -118,3 +142,12 @@ module _ (word : List ℕ) where
       go : (b : Bool) → eqb (length word) 6 ≡ b → isDate (cond b (number word) 0) ≡ true → (length word ≡ 6) × (cond b (number word) 0 ≡ number word)
       go true e k = (eqb-true (length word) 6 e, refl)
       go false e k = absurd (false≢true k)
+
+  -- six digits spell no more
+  pub date-below : dateTyped word < 10 ^ 6
+  unfolding dateTyped
+  date-below = go (eqb (length word) 6) refl
+    where
+      go : (b : Bool) → eqb (length word) 6 ≡ b → cond b (number word) 0 < 10 ^ 6
+      go true e = number-bound 6 word (eqb-true (length word) 6 e)
+      go false e = ten-pos 6

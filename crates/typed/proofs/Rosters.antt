@@ -17,7 +17,7 @@ use Rattle.paper.proofs.Rosters.{listed-set, listed-none}
 use Rattle.field.proofs.Ranges.{inside}
 use Rattle.typed.specs.declared.roster.Roster.{Roster}
 use Rattle.typed.specs.Words.{grown, grownBy, entityTyped}
-use Rattle.typed.specs.Rosters.{separator, ended, wordsFrom, rosterTyped, begun, noted, closedIf, closed, withIf, readOn, marked, entitiesIn}
+use Rattle.typed.specs.Rosters.{separator, ended, wordsFrom, rosterTyped, begun, noted, closedIf, closed, withIf, readOn, numbersMarked, entitiesIn}
 use Rattle.typed.proofs.Numbers.{asEntity, as-within, as-below, as-is, typed-entity}
 
 -- a text read in two pieces is the text read at once
@@ -95,8 +95,8 @@ length-listed zero k es = refl
 length-listed (suc n) k es = ap suc (length-listed n (k + 1) es)
 
 -- they go up from the first
-marked-below : (bs : List Bool) (k e : ℕ) → e < k → among (marked k bs) e ≡ false
-unfolding marked among
+marked-below : (bs : List Bool) (k e : ℕ) → e < k → among (numbersMarked k bs) e ≡ false
+unfolding numbersMarked among
 marked-below [] k e h = refl
 marked-below (true ∷ bs) k e h = rw (ne-eqb e k (omega arith)) (marked-below bs (k + 1) e (omega arith))
 marked-below (false ∷ bs) k e h = marked-below bs (k + 1) e (omega arith)
@@ -107,21 +107,21 @@ listed-below zero k e es h = refl
 listed-below (suc n) k e es h = rw (ne-eqb k e (omega arith), listed-below n (k + 1) e es (omega arith))
 
 -- listed again, they are the marks
-listed-marked : (bs : List Bool) (k : ℕ) → listed (length bs) k (marked k bs) ≡ bs
-unfolding listed marked among
+listed-marked : (bs : List Bool) (k : ℕ) → listed (length bs) k (numbersMarked k bs) ≡ bs
+unfolding listed numbersMarked among
 listed-marked [] k = refl
-listed-marked (true ∷ bs) k = rw (eq-eqb k k refl, listed-below (length bs) (k + 1) k (marked (k + 1) bs) (omega arith), listed-marked bs (k + 1))
+listed-marked (true ∷ bs) k = rw (eq-eqb k k refl, listed-below (length bs) (k + 1) k (numbersMarked (k + 1) bs) (omega arith), listed-marked bs (k + 1))
 listed-marked (false ∷ bs) k = rw (marked-below bs (k + 1) k (omega arith), listed-marked bs (k + 1))
 
 -- from 1 on they are entities
-marked-within : (bs : List Bool) (k : ℕ) → 1 ≤ k → k + length bs ≤ 500 → every (within 1 499) (marked k bs) ≡ true
-unfolding marked every
+marked-within : (bs : List Bool) (k : ℕ) → 1 ≤ k → k + length bs ≤ 500 → every (within 1 499) (numbersMarked k bs) ≡ true
+unfolding numbersMarked every
 marked-within [] k h l = refl
 marked-within (true ∷ bs) k h l = rw (sym (inside 1 499 k h (omega arith))) (marked-within bs (k + 1) (omega arith) (omega arith))
 marked-within (false ∷ bs) k h l = marked-within bs (k + 1) (omega arith) (omega arith)
 
-all-marked : (b : Bool) (bs : List Bool) → length bs ≡ 499 → every (within 1 499) (marked 0 (b ∷ bs)) ≡ not b
-unfolding marked every
+all-marked : (b : Bool) (bs : List Bool) → length bs ≡ 499 → every (within 1 499) (numbersMarked 0 (b ∷ bs)) ≡ not b
+unfolding numbersMarked every
 all-marked true bs l = refl
 all-marked false bs l = marked-within bs 1 (omega arith) (omega arith)
 
@@ -130,7 +130,7 @@ unfolding listed
 listed-first es = refl
 
 -- the numbers of a whole roster of marks, listed again
-listed-again : (es : List ℕ) → listed 500 0 (marked 0 (listed 500 0 es)) ≡ listed 500 0 es
+listed-again : (es : List ℕ) → listed 500 0 (numbersMarked 0 (listed 500 0 es)) ≡ listed 500 0 es
 listed-again es = rw (length-listed 500 0 es) at (listed-marked (listed 500 0 es) 0)
 
 -- ---- opening
@@ -189,6 +189,6 @@ module _ (date : ℕ) (currency : Currency) (text : List ℕ) where
       let ns : List ℕ = rosterTyped text in
       let es : List ℕ = map asEntity ns in
       let all = all-marked (among es 0) (listed 499 1 es) (length-listed 499 1 es) in
-      ap (λ (marks : List Bool). opening date currency (marked 0 marks)) (typed-marks text)
-      ∙ opening-alike date currency (marked 0 (listed 500 0 es)) ns (rw (listed-first es) (all ∙ none-at-0 ns))
+      ap (λ (marks : List Bool). opening date currency (numbersMarked 0 marks)) (typed-marks text)
+      ∙ opening-alike date currency (numbersMarked 0 (listed 500 0 es)) ns (rw (listed-first es) (all ∙ none-at-0 ns))
       (λ h. listed-again es ∙ ap (listed 500 0) (own-numbers ns (T-of h)))

@@ -12,7 +12,7 @@ use lib.ListN.{length, getD, take, drop, set, drop-of-length-le, length-append, 
 use lib.Seq.{drop-cons, take-suc, take-all, length-take-le, append-snoc, set-append-seam}
 use Rattle.paper.specs.Fields.{field, same}
 use Rattle.paper.specs.Buffers.{over}
-use Rattle.typed.specs.Rosters.{marked}
+use Rattle.typed.specs.Rosters.{numbersMarked}
 
 -- ---- a word
 
@@ -43,8 +43,8 @@ module _ {S : Type 0} (step : S → ℕ → S) (through : S → List ℕ → S)
 
 -- ---- the numbers of the marks, written one after the other
 
-marked-snoc : (bs : List Bool) (k : ℕ) (b : Bool) → marked k (bs ++ b ∷ []) ≡ marked k bs ++ marked (k + length bs) (b ∷ [])
-unfolding marked
+marked-snoc : (bs : List Bool) (k : ℕ) (b : Bool) → numbersMarked k (bs ++ b ∷ []) ≡ numbersMarked k bs ++ numbersMarked (k + length bs) (b ∷ [])
+unfolding numbersMarked
 marked-snoc [] k b = rw add-zero
 marked-snoc (true ∷ bs) k b =
     let q : k + 1 + length bs ≡ k + suc (length bs) = omega arith in
@@ -53,7 +53,7 @@ marked-snoc (false ∷ bs) k b =
     let q : k + 1 + length bs ≡ k + suc (length bs) = omega arith in
     rw (← q) (marked-snoc bs (k + 1) b)
 
-over-snoc : (new buffer : List ℕ) (x : ℕ) → length new < length buffer → set (over new buffer) (length new) x ≡ over (new ++ x ∷ []) buffer
+pub over-snoc : (new buffer : List ℕ) (x : ℕ) → length new < length buffer → set (over new buffer) (length new) x ≡ over (new ++ x ∷ []) buffer
 unfolding over
 over-snoc new buffer x l =
     rw (drop-cons buffer (length new) 0 l, set-append-seam, length-append, add-one) (sym (append-snoc new x (drop (suc (length new)) buffer)))
@@ -62,28 +62,28 @@ over-snoc new buffer x l =
 abbrev pub Put : List Bool → List ℕ → List ℕ → ℕ → ℕ → Type 0
 Put marks before after count e = (count ≤ e)
     × (length after ≡ length before)
-    × (count ≡ length (marked 0 (take e marks)))
-    × (after ≡ over (marked 0 (take e marks)) before)
+    × (count ≡ length (numbersMarked 0 (take e marks)))
+    × (after ≡ over (numbersMarked 0 (take e marks)) before)
 
 pub put-none : (marks : List Bool) (before : List ℕ) → Put marks before before 0 0
-unfolding marked over
+unfolding numbersMarked over
 put-none marks before = (omega arith, refl, refl, refl)
 
-one-more : (marks : List Bool) (e : ℕ) → e < length marks → marked 0 (take (e + 1) marks) ≡ marked 0 (take e marks) ++ marked e (getD marks e false ∷ [])
+one-more : (marks : List Bool) (e : ℕ) → e < length marks → numbersMarked 0 (take (e + 1) marks) ≡ numbersMarked 0 (take e marks) ++ numbersMarked e (getD marks e false ∷ [])
 one-more marks e l =
     let q : 0 + length (take e marks) ≡ e = omega (arith, length-take-le e marks (omega arith)) in
     rw (add-one, take-suc marks e false l, marked-snoc (take e marks) 0 (getD marks e false), q)
 
 module _ (marks : List Bool) (before after : List ℕ) (count e : ℕ) (p : Put marks before after count e) where
-  pub put-end : length marks ≤ e → (count ≡ length (marked 0 marks)) × (after ≡ over (marked 0 marks) before)
+  pub put-end : length marks ≤ e → (count ≡ length (numbersMarked 0 marks)) × (after ≡ over (numbersMarked 0 marks) before)
   put-end l = let t = take-all e marks l in (rw t at (p .2), rw t at (p .3))
 
   module _ (l : e < length marks) where
     pub put-turn : getD marks e false ≡ true → count < length before → Put marks before (set after count e) (count + 1) (e + 1)
-    unfolding marked
+    unfolding numbersMarked
     put-turn h r =
-        let so-far : List ℕ = marked 0 (take e marks) in
-        let m : marked 0 (take (e + 1) marks) ≡ so-far ++ e ∷ [] = one-more marks e l ∙ rw h in (
+        let so-far : List ℕ = numbersMarked 0 (take e marks) in
+        let m : numbersMarked 0 (take (e + 1) marks) ≡ so-far ++ e ∷ [] = one-more marks e l ∙ rw h in (
           omega arith,
           length-set after count e ∙ p .1,
           rw m (omega (arith, length-append so-far (e ∷ []), p .2)),
@@ -91,7 +91,7 @@ module _ (marks : List Bool) (before after : List ℕ) (count e : ℕ) (p : Put 
         )
 
     pub skip-turn : getD marks e false ≡ false → Put marks before after count (e + 1)
-    unfolding marked
+    unfolding numbersMarked
     skip-turn h =
-        let m : marked 0 (take (e + 1) marks) ≡ marked 0 (take e marks) = one-more marks e l ∙ rw (h, append-nil) in
+        let m : numbersMarked 0 (take (e + 1) marks) ≡ numbersMarked 0 (take e marks) = one-more marks e l ∙ rw (h, append-nil) in
         (omega arith, p .1, rw m (p .2), rw m (p .3))

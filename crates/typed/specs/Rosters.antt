@@ -54,9 +54,9 @@ readOn r [] = r
 readOn r (b ∷ bs) = readOn (withIf (separator b) r b) bs
 
 -- the numbers marked, the first mark being that of e
-unfoldable pub marked : ℕ → List Bool → List ℕ
-marked e [] = []
-marked e (b ∷ bs) = cond b (e ∷ marked (e + 1) bs) (marked (e + 1) bs)
+unfoldable pub numbersMarked : ℕ → List Bool → List ℕ
+numbersMarked e [] = []
+numbersMarked e (b ∷ bs) = cond b (e ∷ numbersMarked (e + 1) bs) (numbersMarked (e + 1) bs)
 
 unfoldable pub entitiesIn : Roster → List ℕ
-entitiesIn r = marked 0 (r .listed)
+entitiesIn r = numbersMarked 0 (r .listed)

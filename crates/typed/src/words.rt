@@ -14,9 +14,6 @@ const DATE: usize = 6;
 // A number that is no date, and no entity.
 const NONE: u64 = 0;
 
-// The last entity number.
-const LAST: u64 = Session::ROSTER as u64 - 1;
-
 // Whether a word is this name.
 pub fn is(word: &[u8], name: &[u8]) -> bool
     ensures { λ r. ⌜ r ≡ same (now (word .entry)) (now (name .entry)) ⌝ }
@@ -42,10 +39,10 @@ pub fn grown(n: u64, b: u8) -> u64
     ensures { λ r. ⌜ (r ≡ grown n b) × (r < 5000) ⌝ }
 {
     if !byte::digit(b) {
-        return LAST + 1;
+        return Session::LAST + 1;
     }
-    if LAST < n {
-        return LAST + 1;
+    if Session::LAST < n {
+        return Session::LAST + 1;
     }
     n * 10 + (b - b'0') as u64
 }

@@ -25,7 +25,7 @@ answers c =
     let r = s .before in
     let l = r .before in
     let a = l .before in
-    answered (header c) (tray c) (out c) (a .before .batches .ensures .0) (a .answer .ensures) (l .length .ensures) (r .room .ensures) (s .and-then .ensures) (c .and-then2 .ensures)
+    answered (header c) (tray c) (out c) (a .before .batches .ensures .0) (a .answer .ensures) (l .unless-too-long .ensures) (r .room .ensures) (s .and-then .ensures) (c .and-then2 .ensures)
 
 returns : tie.Need-returns
 unfolding written

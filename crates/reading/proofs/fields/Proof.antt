@@ -2,7 +2,7 @@ use mathlib.Core.Path.{refl, _∙_}
 use borrow.Author.Needs.{needs}
 use Rattle.paper.specs.declared.record.Kind.the-variants.{Other}
 use Rattle.paper.specs.Reading.{fields}
-use Rattle.state.specs.States.{heard, Kept}
+use Rattle.state.specs.States.{stepSays, Kept}
 use Rattle.state.proofs.Steps.{stops-at}
 use Rattle.reading.proofs.Records.{of-kind, header-before, individual-before}
 use Rattle.reading.proofs.fields.Statement.{statement}
@@ -63,7 +63,7 @@ returns-6 : tie.Need-returns-6
 returns-6 c = (c .step6 .ensures .0 _, c .step6 .ensures .1)
 
 returns-7 : tie.Need-returns-7
-unfolding heard Kept fields
+unfolding stepSays Kept fields
 returns-7 c = (stops-at _ _ _ _ Other (c .before .before .before .pre .1 .0 ∙ c .enum-told7 .given .1) refl, tt)
 
 pub fields-spec : {M : Type 1} → statement M

@@ -5,16 +5,16 @@ use Rattle.paper.specs.declared.record.Before.{Before}
 use Rattle.paper.specs.Answers.{refused}
 use Rattle.paper.specs.Reading.{finish}
 use Rattle.record.proofs.Arms.{in-befores}
-use Rattle.reading.specs.Said.{said, Carries}
+use Rattle.reading.specs.Said.{readingSays, Carries}
 use Rattle.reading.proofs.finish.Statement.{statement}
 use Rattle.reading.proofs.finish.Tie as tie
 
 returns : tie.Need-returns
-unfolding said Carries finish
+unfolding readingSays Carries finish
 returns c = (rw (c .enum-told .given .1), refl)
 
 returns-2 : tie.Need-returns-2
-unfolding said Carries finish
+unfolding readingSays Carries finish
 returns-2 c =
     let a = c .before .args in (
       in-befores (refused 17 (a .records)) (λ (b : Before). finish b (a .records)) (0 ∷ 1 ∷ 2 ∷ 3 ∷ 4 ∷ []) (refl, (refl, (refl, (refl, (refl, tt)))))

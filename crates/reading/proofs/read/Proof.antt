@@ -7,10 +7,10 @@ use borrow.Author.Tests.{not-true, not-false}
 use lib.ListN.{length, drop}
 use Rattle.paper.specs.Fields.{every, good}
 use Rattle.paper.specs.Reading.{start, lengthGood, finish, readingFrom, parts}
-use Rattle.state.specs.States.{meant, heard, Room, Standing, Kept}
+use Rattle.state.specs.States.{meant, stepSays, Room, Preceded, Kept}
 use Rattle.record.specs.Verdicts.{under}
 use Rattle.state.proofs.Bounds.{below-zeros}
-use Rattle.reading.specs.Said.{said, Carries}
+use Rattle.reading.specs.Said.{readingSays, Carries}
 use Rattle.reading.proofs.Walk.{go-on, stop-here, done, at-start, short, too-long, read-through}
 use Rattle.reading.proofs.read.Statement.{statement}
 use Rattle.reading.proofs.read.Tie as tie
@@ -21,7 +21,7 @@ Inv-loop terms roster file clean records state₀ place₀ state place =
     × (lengthGood (length file) ≡ true)
     × (length file ≤ 940000)
     × Room place state
-    × Standing (state .before) place state
+    × Preceded (state .before) place state
     × (clean ≡ true → every good file ≡ true)
     × (readingFrom (under terms roster) start (parts 94 records file)
     ≡ readingFrom (under terms roster) (meant file place state) (drop place (parts 94 records file)))
@@ -30,7 +30,7 @@ abbrev μ-loop : tie.MeasureT-loop
 μ-loop terms roster file clean records state₀ place₀ state place = records - place
 
 returns : tie.Need-returns Inv-loop μ-loop
-unfolding said Carries
+unfolding readingSays Carries
 returns c = (too-long _ _ (sym (c .before .length-good .ensures) ∙ not-true (c .before .length-good .result) (c .if1 .taken)), tt)
 
 -- the length was good
@@ -38,7 +38,7 @@ fit : (c : tie.Else1 Inv-loop μ-loop) → lengthGood (length (c .before .before
 fit c = sym (c .before .length-good .ensures) ∙ not-false (c .before .length-good .result) (c .if1 .left)
 
 loop-holds : tie.Need-loop-holds Inv-loop μ-loop
-unfolding Standing
+unfolding Preceded
 loop-holds c =
     let e = c .before in
     let a = e .before .before .before .args in
@@ -53,7 +53,7 @@ loop-holds c =
     )
 
 returns-2 : tie.Need-returns-2 Inv-loop μ-loop
-unfolding said Carries heard meant
+unfolding readingSays Carries stepSays meant
 returns-2 c =
     let o = c .before .before .before in
     let l = o .before .before in
@@ -63,7 +63,7 @@ returns-2 c =
     )
 
 loop-again : tie.Need-loop-again Inv-loop μ-loop
-unfolding heard Kept
+unfolding stepSays Kept
 loop-again c =
     let o = c .before .before .before in
     let l = o .before .before in

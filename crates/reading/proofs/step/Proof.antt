@@ -4,8 +4,8 @@ use Rattle.paper.specs.Checks.{fine, need}
 use Rattle.paper.specs.Fields.{every, good}
 use Rattle.paper.specs.Kinds.{allowed, kindOf}
 use Rattle.paper.proofs.Exactly.{also-r}
-use Rattle.state.specs.States.{heard, recordAt, Kept}
-use Rattle.record.specs.Verdicts.{told}
+use Rattle.state.specs.States.{stepSays, recordAt, Kept}
+use Rattle.record.specs.Verdicts.{checkOf}
 use Rattle.record.proofs.Chain.{begun}
 use Rattle.reading.proofs.Records.{clean-record, first, stands, falls}
 use Rattle.reading.proofs.step.Statement.{statement}
@@ -19,7 +19,7 @@ characters-requires c κs =
 
 -- what characters and order say
 verdict : (c : tie.After-also) → let a = c .before .before .before .before .before .before .before .args in
-    first (a .file .now) (a .place) (a .state) ≡ told (c .also .result)
+    first (a .file .now) (a .place) (a .state) ≡ checkOf (c .also .result)
 verdict c =
     let n = c .before .before in
     let k = n .before .before in
@@ -36,7 +36,7 @@ verdict c =
 -- both were right
 stood : (c : tie.After-enum-told) → let a = c .before .before .before .before .before .before .before .before .before .args in
     first (a .file .now) (a .place) (a .state) ≡ fine
-unfolding told
+unfolding checkOf
 stood c = rw (c .enum-told .given .1) at (verdict (c .before .before))
 
 fields-requires : tie.Need-fields-requires
@@ -57,7 +57,7 @@ returns : tie.Need-returns
 returns c = (c .fields .ensures .0 ∙ stands _ _ _ _ (stood (c .before)), c .fields .ensures .1)
 
 returns-2 : tie.Need-returns-2
-unfolding told heard Kept
+unfolding checkOf stepSays Kept
 returns-2 c = (falls _ _ _ _ (rw (c .before .fault .given .1) at (verdict (c .before .before .before))), tt)
 
 pub step-spec : {M : Type 1} → statement M

@@ -4,7 +4,7 @@ use Rattle.counter.proofs.jobs.build.Statement.{statement}
 use Rattle.counter.proofs.jobs.build.Tie as tie
 
 inside : tie.Need-array-share-prefix-header
-inside c = taken _ (c .before .taken .given .1) (c .before .before .before .before .take .ensures)
+inside c = taken _ (c .before .taken .given .1) (c .before .before .before .before .file .ensures)
 
 slice-aggregate-build-from : tie.Need-slice-aggregate-build-from
 slice-aggregate-build-from c = front _ _ (inside (c .before))

@@ -15,14 +15,15 @@ hand-over-requires : tie.Need-hand-over-requires
 hand-over-requires c κs =
     let m = c .before .before .before .before .before .before .before .before .before .before .before .before in
     let o = c .before .before .build in
-    fits (o .result) (o .last .1 .1 .1 .0) (λ n p. build-inside (m .before .before .before .before .before .before .before .before .before .before .before .before .args .session) _ _ _ _ _ (o .ensures) p)
+    fits (o .result) (o .last .1 .1 .1 .0) (λ n p. build-inside (m .before .before .before .before .before .before .before .before .before .before .before .before .before .before .args .session) _ _ _ _ _ (o .ensures) p)
 
 pub build-from-spec : {M : Type 1} → statement M
 build-from-spec =
     tie.close
     (tie.spec
-    (λ c κs. search needs) (λ c. search needs) (λ c κs. search needs) (λ c. search needs) (λ c. search needs) (λ c. search needs) (λ c κs. search needs) (λ c. search needs) (λ c κs. search needs) (λ c. search needs) (λ c. search needs) (λ c. search needs) (λ c κs. search needs) (λ c. search needs) (λ c. search needs) (λ c. search needs)
-    (λ c. search needs) (λ c. search needs) (λ c. search needs) (λ c κs. search needs) (λ c. search needs) (λ c κs. search needs)
+    (λ c κs. search needs) (λ c. search needs) (λ c κs. search needs) (λ c. search needs) (λ c. search needs) (λ c. search needs) (λ c κs. search needs) (λ c. search needs) (λ c. search needs) (λ c. search needs)
+    (λ c κs. search needs) (λ c. search needs) (λ c. search needs) (λ c. search needs) (λ c κs. search needs) (λ c. search needs) (λ c. search needs) (λ c. search needs)
+    (λ c. search needs) (λ c. search needs) (λ c κs. search needs) (λ c. search needs) (λ c κs. search needs)
     inside
     slice-aggregate-build
     (λ c. search needs) (λ c κs. search needs) (λ c. search needs)

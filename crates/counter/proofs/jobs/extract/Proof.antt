@@ -6,7 +6,7 @@ use Rattle.counter.proofs.jobs.extract.Statement.{statement}
 use Rattle.counter.proofs.jobs.extract.Tie as tie
 
 inside : tie.Need-array-share-prefix-input
-inside c = let m = c .before .before .before in taken _ (m .taken .given .1) (m .before .before .before .take .ensures)
+inside c = let m = c .before .before .before in taken _ (m .taken .given .1) (m .before .before .before .file .ensures)
 
 slice-aggregate-extract : tie.Need-slice-aggregate-extract
 slice-aggregate-extract c = front _ _ (inside (c .before))

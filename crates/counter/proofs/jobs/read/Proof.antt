@@ -4,7 +4,7 @@ use Rattle.counter.proofs.jobs.read.Statement.{statement}
 use Rattle.counter.proofs.jobs.read.Tie as tie
 
 inside : tie.Need-array-share-prefix-input
-inside c = taken _ (c .before .taken .given .1) (c .before .before .before .before .take .ensures)
+inside c = taken _ (c .before .taken .given .1) (c .before .before .before .before .file .ensures)
 
 slice-aggregate-read : tie.Need-slice-aggregate-read
 slice-aggregate-read c = front _ _ (inside (c .before))

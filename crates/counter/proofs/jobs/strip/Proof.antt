@@ -6,7 +6,7 @@ use Rattle.counter.proofs.jobs.strip.Statement.{statement}
 use Rattle.counter.proofs.jobs.strip.Tie as tie
 
 inside : tie.Need-array-share-prefix-input
-inside c = let m = c .before .before in taken _ (m .taken .given .1) (m .before .before .before .take .ensures)
+inside c = let m = c .before .before in taken _ (m .taken .given .1) (m .before .before .before .file .ensures)
 
 slice-aggregate-strip : tie.Need-slice-aggregate-strip
 slice-aggregate-strip c = front _ _ (inside (c .before))

@@ -1,6 +1,6 @@
 use mathlib.Core.Path.{sym, ap, _∙_}
 use borrow.Author.Needs.{needs}
-use Rattle.reading.specs.Said.{said}
+use Rattle.reading.specs.Said.{readingSays}
 use Rattle.desk.proofs.Traying.{not-built, built-part, was-built, not-read}
 use Rattle.desk.proofs.Session.build.Statement.{statement}
 use Rattle.desk.proofs.Session.build.Tie as tie
@@ -19,7 +19,7 @@ part-blanks-end c =
     built-part _ _ _ _ _ (b .before .before .before .before .build .ensures) (b .built .given .1) .2
 
 returns-2 : tie.Need-returns-2
-unfolding said
+unfolding readingSays
 returns-2 c =
     let m = c .before .before .before .before in
     let r = m .before .before .before .before in
@@ -28,16 +28,16 @@ returns-2 c =
     let e = m .before .before .enum-told3 .given .1 in
     let h = rw (t .terms .ensures) at (r .read .ensures .0) in
     c .unwritten .ensures _
-    ∙ rw (c .before .of-reading .ensures, e) (not-read _ _ _ _ _ (b .build .ensures) (t .before .before .built .given .1) _ _ (sym h ∙ ap said e) (m .blanks .ensures))
+    ∙ rw (c .before .of-reading .ensures, e) (not-read _ _ _ _ _ (b .build .ensures) (t .before .before .built .given .1) _ _ (sym h ∙ ap readingSays e) (m .blanks .ensures))
 
 returns-3 : tie.Need-returns-3
-unfolding said
+unfolding readingSays
 returns-3 c =
     let r = c .before .before in
     let t = r .before .before .before .before .before in
     let b = t .before .before .before .before .before .before in
     let h = rw (t .terms .ensures) at (r .read .ensures .0) in
-    was-built _ _ _ _ _ (b .build .ensures) (t .before .before .built .given .1) _ (sym h ∙ ap said (c .enum-told2 .given .1))
+    was-built _ _ _ _ _ (b .build .ensures) (t .before .before .built .given .1) _ (sym h ∙ ap readingSays (c .enum-told2 .given .1))
 
 pub build-spec : {M : Type 1} → statement M
 build-spec =

@@ -1,32 +1,32 @@
 use mathlib.Core.Path.{sym, ap, _∙_}
 use borrow.Author.Needs.{needs}
-use Rattle.reading.specs.Said.{said}
+use Rattle.reading.specs.Said.{readingSays}
 use Rattle.paper.proofs.Accepted.{accepted-facts}
 use Rattle.desk.proofs.Traying.{not-stripped, was-stripped}
 use Rattle.desk.proofs.Session.strip.Statement.{statement}
 use Rattle.desk.proofs.Session.strip.Tie as tie
 
 returns : tie.Need-returns
-unfolding said
+unfolding readingSays
 returns c =
     let r = c .before .before .before .before in
     let h = rw (r .before .before .before .terms .ensures) at (r .read .ensures .0) in
     let e = c .before .before .enum-told2 .given .1 in
-    c .unwritten .ensures _ ∙ rw (c .before .of-reading .ensures, e) (not-stripped _ _ _ (sym h ∙ ap said e))
+    c .unwritten .ensures _ ∙ rw (c .before .of-reading .ensures, e) (not-stripped _ _ _ (sym h ∙ ap readingSays e))
 
 strip-requires : tie.Need-strip-requires
-unfolding said
+unfolding readingSays
 strip-requires c κs =
     let r = c .before .before .before in
     let h = rw (r .before .before .before .terms .ensures) at (r .read .ensures .0) in
-    accepted-facts _ _ (sym h ∙ ap said (c .before .enum-told .given .1)) .short
+    accepted-facts _ _ (sym h ∙ ap readingSays (c .before .enum-told .given .1)) .short
 
 returns-2 : tie.Need-returns-2
-unfolding said
+unfolding readingSays
 returns-2 c =
     let r = c .before .before .before .before .before .before in
     let h = rw (r .before .before .before .terms .ensures) at (r .read .ensures .0) in
-    c .before .before .strip .ensures ∙ was-stripped _ _ _ (sym h ∙ ap said (c .before .before .before .before .enum-told .given .1))
+    c .before .before .strip .ensures ∙ was-stripped _ _ _ (sym h ∙ ap readingSays (c .before .before .before .before .enum-told .given .1))
 
 pub strip-spec : {M : Type 1} → statement M
 strip-spec =

@@ -1,7 +1,7 @@
 use native.Mathlib.Omega.{arith}
 use lib.ListN.{length-set}
 use borrow.Author.Needs.{needs}
-use Rattle.export.proofs.Days.{handed-both, handed-none}
+use Rattle.export.proofs.Days.{both-written, none-written}
 use Rattle.export.proofs.day.hand_answer.Statement.{statement}
 use Rattle.export.proofs.day.hand_answer.Tie as tie
 
@@ -15,5 +15,5 @@ hand-answer-spec =
     (λ c. search needs) (λ c. search needs) (λ c. search needs) (λ c. search needs) (λ c. search needs) (λ c. search needs)
     slice-write-answers-2
     (λ c. search needs)
-    (λ c. handed-both _ _ _ (c .if1 .taken))
-    (λ c. handed-none _ _ _ (c .if1 .left)))
+    (λ c. both-written _ _ _ (c .if1 .taken))
+    (λ c. none-written _ _ _ (c .if1 .left)))

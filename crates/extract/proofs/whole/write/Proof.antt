@@ -16,7 +16,7 @@ use Rattle.writing.proofs.Laying.{on, whole, kept}
 use Rattle.batches.proofs.Parts.{rest-of, front-wrote}
 use Rattle.extract.proofs.Batches.{placed-rest}
 use Rattle.extract.proofs.Rest.{blocksTo, header-blocks, whole-room}
-use Rattle.extract.proofs.Progress.{Progress, begun, goes-few, start-room, batch-room, tally-below, own-inside, batch-done, end-room, end-few, end-done}
+use Rattle.extract.proofs.Progress.{Progress, begun, taken-few, taken-placed, start-room, batch-room, tally-below, own-inside, batch-done, end-room, end-few, end-done}
 use Rattle.extract.proofs.whole.write.Statement.{statement}
 use Rattle.extract.proofs.whole.write.Tie as tie
 
@@ -60,7 +60,7 @@ add-number : tie.Need-add-number Inv-loop μ-loop
 add-number c =
     let l = c .before in
     let s = l .before .before .before .before .before .before .before .before .before in
-    omega (arith, l .loop .inv .0 .few, l .loop .inv .0 .inside, goes-few (s .pre .0 .1) (s .pre .0 .2))
+    omega (arith, l .loop .inv .0 .few, l .loop .inv .0 .inside, taken-few _ _ (s .pre .0 .1) (s .pre .0 .2))
 
 sub-write-2 : tie.Need-sub-write-2 Inv-loop μ-loop
 sub-write-2 c = start-room _ _ _ _ _ _ _ _ _ (c .before .loop .inv .0) (c .before .loop .inv .1) (c .loop-test .taken)
@@ -72,7 +72,7 @@ mul-write : tie.Need-mul-write Inv-loop μ-loop
 mul-write c =
     let l = c .before .before in
     let s = l .before .before .before .before .before .before .before .before .before in
-    omega (arith, l .loop .inv .0 .inside, goes-few (s .pre .0 .1) (s .pre .0 .2))
+    omega (arith, l .loop .inv .0 .inside, taken-few _ _ (s .pre .0 .1) (s .pre .0 .2))
 
 write-requires-2 : tie.Need-write-requires-2 Inv-loop μ-loop
 write-requires-2 c κs =
@@ -84,7 +84,7 @@ write-requires-2 c κs =
     let g = s .pre .0 .2 in
     let n = length-drop (l .loop .i) (a .places .now) in
     rw (rest-of (l .loop .i) (a .places .now)) (
-      (f .short, placed-rest (a .file .now) (a .places .now) (l .loop .i) (g .placed), omega (arith, n, goes-few (s .pre .0 .1) g), omega (arith, n, t)),
+      (f .short, placed-rest (a .file .now) (a .places .now) (l .loop .i) (taken-placed _ _ (s .pre .0 .1) g), omega (arith, n, taken-few _ _ (s .pre .0 .1) g), omega (arith, n, t)),
       batch-room _ _ _ _ _ _ _ _ _ (l .loop .inv .0) (l .loop .inv .1) t,
     )
 
@@ -95,7 +95,7 @@ add-at c =
     let s = l .before .before .before .before .before .before .before .before .before in
     let e = rw (rest-of (l .loop .i) (s .args .places .now)) at (o .write2 .ensures .1) in
     let m = own-inside _ _ _ _ _ _ _ _ _ (l .loop .inv .0) (l .loop .inv .1) (o .before .before .before .loop-test .taken) in
-    omega (arith, e, m, l .loop .inv .0 .bounded, goes-few (s .pre .0 .1) (s .pre .0 .2))
+    omega (arith, e, m, l .loop .inv .0 .bounded, taken-few _ _ (s .pre .0 .1) (s .pre .0 .2))
 
 mul-at : tie.Need-mul-at Inv-loop μ-loop
 mul-at c =
@@ -104,7 +104,7 @@ mul-at c =
     let s = l .before .before .before .before .before .before .before .before .before in
     let e = rw (rest-of (l .loop .i) (s .args .places .now)) at (o .write2 .ensures .1) in
     let m = own-inside _ _ _ _ _ _ _ _ _ (l .loop .inv .0) (l .loop .inv .1) (o .before .before .before .loop-test .taken) in
-    omega (arith, e, m, l .loop .inv .0 .bounded, goes-few (s .pre .0 .1) (s .pre .0 .2))
+    omega (arith, e, m, l .loop .inv .0 .bounded, taken-few _ _ (s .pre .0 .1) (s .pre .0 .2))
 
 add-at-2 : tie.Need-add-at-2 Inv-loop μ-loop
 add-at-2 c =
@@ -113,7 +113,7 @@ add-at-2 c =
     let s = l .before .before .before .before .before .before .before .before .before in
     let e = rw (rest-of (l .loop .i) (s .args .places .now)) at (o .write2 .ensures .1) in
     let m = own-inside _ _ _ _ _ _ _ _ _ (l .loop .inv .0) (l .loop .inv .1) (o .before .before .before .loop-test .taken) in
-    omega (arith, e, m, l .loop .inv .0 .bounded, goes-few (s .pre .0 .1) (s .pre .0 .2))
+    omega (arith, e, m, l .loop .inv .0 .bounded, taken-few _ _ (s .pre .0 .1) (s .pre .0 .2))
 
 add-i : tie.Need-add-i Inv-loop μ-loop
 add-i c =
@@ -122,7 +122,7 @@ add-i c =
     let s = l .before .before .before .before .before .before .before .before .before in
     let e = rw (rest-of (l .loop .i) (s .args .places .now)) at (o .write2 .ensures .1) in
     let m = own-inside _ _ _ _ _ _ _ _ _ (l .loop .inv .0) (l .loop .inv .1) (o .before .before .before .loop-test .taken) in
-    omega (arith, e, m, l .loop .inv .0 .bounded, goes-few (s .pre .0 .1) (s .pre .0 .2))
+    omega (arith, e, m, l .loop .inv .0 .bounded, taken-few _ _ (s .pre .0 .1) (s .pre .0 .2))
 
 add-i-2 : tie.Need-add-i-2 Inv-loop μ-loop
 add-i-2 c =
@@ -131,7 +131,7 @@ add-i-2 c =
     let s = l .before .before .before .before .before .before .before .before .before in
     let e = rw (rest-of (l .loop .i) (s .args .places .now)) at (o .write2 .ensures .1) in
     let m = own-inside _ _ _ _ _ _ _ _ _ (l .loop .inv .0) (l .loop .inv .1) (o .before .before .before .loop-test .taken) in
-    omega (arith, e, m, l .loop .inv .0 .bounded, goes-few (s .pre .0 .1) (s .pre .0 .2))
+    omega (arith, e, m, l .loop .inv .0 .bounded, taken-few _ _ (s .pre .0 .1) (s .pre .0 .2))
 
 plus-requires : tie.Need-plus-requires Inv-loop μ-loop
 plus-requires c κs =
@@ -139,7 +139,7 @@ plus-requires c κs =
     let l = o .before .before .before .before in
     let s = l .before .before .before .before .before .before .before .before .before in
     let p = l .loop .inv .0 in
-    let few = goes-few (s .pre .0 .1) (s .pre .0 .2) in
+    let few = taken-few _ _ (s .pre .0 .1) (s .pre .0 .2) in
     let e = rw (rest-of (l .loop .i) (s .args .places .now)) at (o .write2 .ensures .2) in
     (below-more _ (omega (arith, p .inside, few)) (p .below), rw e (below-more _ (omega (arith, few)) (tally-below _ _ _ _ _ _ _ _ _ p (l .loop .inv .1) (o .before .before .before .loop-test .taken))))
 
@@ -150,7 +150,7 @@ loop-less c =
     let s = l .before .before .before .before .before .before .before .before .before in
     let e = rw (rest-of (l .loop .i) (s .args .places .now)) at (o .write2 .ensures .1) in
     let m = own-inside _ _ _ _ _ _ _ _ _ (l .loop .inv .0) (l .loop .inv .1) (o .before .before .before .loop-test .taken) in
-    omega (arith, e, m, l .loop .inv .0 .bounded, goes-few (s .pre .0 .1) (s .pre .0 .2))
+    omega (arith, e, m, l .loop .inv .0 .bounded, taken-few _ _ (s .pre .0 .1) (s .pre .0 .2))
 
 loop-again : tie.Need-loop-again Inv-loop μ-loop
 loop-again c =
@@ -165,13 +165,13 @@ add-all : tie.Need-add-all Inv-loop μ-loop
 add-all c =
     let l = c .before in
     let s = l .before .before .before .before .before .before .before .before .before in
-    omega (arith, l .loop .inv .0 .bounded, l .loop .inv .0 .inside, goes-few (s .pre .0 .1) (s .pre .0 .2))
+    omega (arith, l .loop .inv .0 .bounded, l .loop .inv .0 .inside, taken-few _ _ (s .pre .0 .1) (s .pre .0 .2))
 
 add-file-control : tie.Need-add-file-control Inv-loop μ-loop
 add-file-control c =
     let l = c .before in
     let s = l .before .before .before .before .before .before .before .before .before in
-    omega (arith, l .loop .inv .0 .bounded, l .loop .inv .0 .inside, goes-few (s .pre .0 .1) (s .pre .0 .2))
+    omega (arith, l .loop .inv .0 .bounded, l .loop .inv .0 .inside, taken-few _ _ (s .pre .0 .1) (s .pre .0 .2))
 
 part-file-control-end : tie.Need-part-file-control-end Inv-loop μ-loop
 part-file-control-end c = end-room _ _ _ _ _ _ _ _ _ (c .before .loop .inv .0) (c .before .loop .inv .1) (c .loop-test .left)

@@ -7,6 +7,7 @@ use Rattle.paper.specs.Fields.{digit}
 use Rattle.paper.proofs.Tests.{T-of}
 use Rattle.paper.proofs.Digits.{digit-range}
 use Rattle.typed.specs.Words.{grown}
+use Rattle.typed.proofs.Numbers.{grown-bounded}
 use Rattle.typed.proofs.words.grown.Statement.{statement}
 use Rattle.typed.proofs.words.grown.Tie as tie
 
@@ -15,11 +16,15 @@ is-digit c = sym (c .before .digit .ensures) ∙ not-false (c .before .digit .re
 
 returns : tie.Need-returns
 unfolding grown
-returns c = (rw (sym (c .before .digit .ensures) ∙ not-true (c .before .digit .result) (c .if1 .taken)), omega arith)
+returns c =
+    let s = c .before .before .args in
+    grown-bounded (s .n) (s .b) (rw (sym (c .before .digit .ensures) ∙ not-true (c .before .digit .result) (c .if1 .taken)))
 
 returns-2 : tie.Need-returns-2
 unfolding grown
-returns-2 c = (rw (is-digit (c .before), lt-leb (c .before .before .before .args .n) 499 (c .if2 .taken)), omega arith)
+returns-2 c =
+    let s = c .before .before .before .args in
+    grown-bounded (s .n) (s .b) (rw (is-digit (c .before), lt-leb (s .n) 499 (c .if2 .taken)))
 
 sub-result : tie.Need-sub-result
 sub-result c = digit-range _ (T-of (is-digit (c .before))) .0
@@ -27,8 +32,8 @@ sub-result c = digit-range _ (T-of (is-digit (c .before))) .0
 returns-3 : tie.Need-returns-3
 unfolding grown
 returns-3 c =
-    let r = digit-range _ (T-of (is-digit (c .before))) in
-    (rw (is-digit (c .before), le-leb (c .before .before .before .args .n) 499 (c .if2 .left)) (omega arith), omega arith)
+    let s = c .before .before .before .args in
+    grown-bounded (s .n) (s .b) (rw (is-digit (c .before), le-leb (s .n) 499 (c .if2 .left)) (omega arith))
 
 pub grown-spec : {M : Type 1} → statement M
 grown-spec =

@@ -1,15 +1,15 @@
 use borrow.Author.Needs.{needs}
 use Rattle.paper.specs.Checks.{_also_}
-use Rattle.record.specs.Verdicts.{told}
+use Rattle.record.specs.Verdicts.{checkOf}
 use Rattle.record.proofs.verdict.Verdict.also.Statement.{statement}
 use Rattle.record.proofs.verdict.Verdict.also.Tie as tie
 
 returns : tie.Need-returns
-unfolding told _also_
+unfolding checkOf _also_
 returns c = simp (c .enum-told .given .1)
 
 returns-2 : tie.Need-returns-2
-unfolding told _also_
+unfolding checkOf _also_
 returns-2 c = simp (c .before .self .given .1)
 
 pub also-spec : {M : Type 1} → statement M

@@ -1,0 +1,25 @@
+-- What the words of a call ask for.
+use Prim.Native.Nat.{ℕ}
+use mathlib.Core.Bool.{Bool, cond}
+use mathlib.Core.List.{List}
+use lib.Dec.{leb, eqb}
+use Rattle.paper.specs.declared.rules.Currency.the-variants.{Pesos, Dollars}
+use Rattle.paper.specs.Fields.{is}
+use Rattle.typed.specs.declared.call.Job.{Job}
+use Rattle.typed.specs.declared.call.Job.the-variants.{Read, Present, Extract, Build, Strip}
+use Rattle.typed.specs.declared.call.Asked.{Asked}
+use Rattle.typed.specs.declared.call.Asked.the-variants.{To, Nothing}
+
+-- a job whose number of words fits, in pesos or in dollars
+unfoldable pub askedIn : List ℕ → Job → Bool → Asked
+askedIn currency job fits = cond fits (cond (is currency "pesos") (To job Pesos) (cond (is currency "dollars") (To job Dollars) Nothing)) Nothing
+
+-- the job's name, and how many words its call has, the program's own name among them; those of `present` are six or more
+unfoldable pub askedFor : List ℕ → List ℕ → ℕ → Asked
+askedFor job currency count =
+    cond (is job "read") (askedIn currency Read (eqb count 6))
+    (cond (is job "present") (askedIn currency Present (leb 6 count))
+    (cond (is job "extract") (askedIn currency Extract (eqb count 8))
+    (cond (is job "build") (askedIn currency Build (eqb count 8))
+    (cond (is job "strip") (askedIn currency Strip (eqb count 7))
+    Nothing))))

@@ -1,0 +1,76 @@
+// What the words of a call ask for.
+ghost use mathlib.Core.Path.{_≡_};
+ghost use Rattle.typed.specs.Asking.{askedIn, askedFor};
+use crate::words;
+use paper::rules::Currency;
+
+pub enum Job {
+    Read,
+    Present,
+    Extract,
+    Build,
+    Strip,
+}
+
+// A job to be done in a currency; or nothing that there is.
+pub enum Asked {
+    To(Job, Currency),
+    Nothing,
+}
+
+// Which word stands where. The program's own name is at 0.
+pub struct Word;
+
+impl Word {
+    pub const JOB: usize = 1;
+
+    pub const DATE: usize = 2;
+
+    pub const CURRENCY: usize = 3;
+
+    pub const ROSTER: usize = 4;
+    // FILE, or FILE.., or FILE OUT; or ENTITY FILE OUT, or HEADER TRAY OUT
+    pub const FIRST: usize = 5;
+
+    pub const SECOND: usize = 6;
+
+    pub const THIRD: usize = 7;
+}
+
+// The job, where so many words are its, in the currency that the word names.
+fn asked_in(currency: &[u8], job: Job, fits: bool) -> Asked
+    ensures { λ r. ⌜ r ≡ askedIn (now (currency .entry)) job fits ⌝ }
+{
+    if !fits {
+        return Asked::Nothing;
+    }
+    if words::is(currency, b"pesos") {
+        return Asked::To(job, Currency::Pesos);
+    }
+    if words::is(currency, b"dollars") {
+        return Asked::To(job, Currency::Dollars);
+    }
+    Asked::Nothing
+}
+
+// What the words for the job and the currency ask for, in a call of so many words.
+pub fn asked_for(job: &[u8], currency: &[u8], count: usize) -> Asked
+    ensures { λ r. ⌜ r ≡ askedFor (now (job .entry)) (now (currency .entry)) count ⌝ }
+{
+    if words::is(job, b"read") {
+        return asked_in(currency, Job::Read, count == Word::FIRST + 1);
+    }
+    if words::is(job, b"present") {
+        return asked_in(currency, Job::Present, count > Word::FIRST);
+    }
+    if words::is(job, b"extract") {
+        return asked_in(currency, Job::Extract, count == Word::THIRD + 1);
+    }
+    if words::is(job, b"build") {
+        return asked_in(currency, Job::Build, count == Word::THIRD + 1);
+    }
+    if words::is(job, b"strip") {
+        return asked_in(currency, Job::Strip, count == Word::SECOND + 1);
+    }
+    Asked::Nothing
+}
