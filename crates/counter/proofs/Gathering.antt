@@ -2,9 +2,9 @@
 use Prim.Native.Nat.{ℕ, zero, suc, _+_, _≤_, _<_}
 use native.Mathlib.Numerals.{add-one}
 use native.Mathlib.Omega.{arith}
-use mathlib.Core.Bool.{Bool, true, false}
+use mathlib.Core.Bool.{true}
 use mathlib.Core.List.{List, [], _∷_, _++_}
-use mathlib.Core.Path.{_≡_, sym, ap, _∙_, subst}
+use mathlib.Core.Path.{_≡_, refl, sym, ap, _∙_, subst}
 use lib.ListN.{length, getD, take, set, length-append}
 use lib.Seq.{take-suc, take-all, length-take-le}
 use Rattle.paper.specs.Buffers.{over}
@@ -15,12 +15,17 @@ use Rattle.typed.specs.declared.roster.Roster.{Roster}
 use Rattle.typed.specs.Rosters.{begun, readOn, closed, entitiesIn}
 use Rattle.typed.proofs.Rosters.{pieces}
 use Rattle.typed.proofs.Steps.{over-snoc}
-use Rattle.files.specs.declared.taking.Taken.{Taken}
-use Rattle.files.specs.declared.taking.Taken.the-variants as took
+use Rattle.files.specs.declared.taking.Source.{Source}
+use Rattle.files.specs.declared.taking.Filled.{Filled}
+use Rattle.files.specs.declared.taking.Filled.the-variants as filled
+use Rattle.files.specs.Sources.{hasEnded, JustOpened, HandedOver}
+use Rattle.files.proofs.Parts.{read-further, nothing-over, over-on}
+use Rattle.counter.specs.declared.roster.Basis.{Basis}
+use Rattle.counter.specs.declared.roster.Basis.the-variants.{Text}
 use Rattle.counter.specs.declared.roster.Piece.{Piece}
 use Rattle.counter.specs.declared.roster.Listed.{Listed}
-use Rattle.counter.specs.declared.roster.Listed.the-variants.{Entities, Endless, Failed}
-use Rattle.counter.specs.Gathering.{bytesRead, PieceRead, TextRead, entitiesOf, listedBy, laidBy, OnList, typed, Given, Gathered}
+use Rattle.counter.specs.declared.roster.Listed.the-variants.{Entities, Failed}
+use Rattle.counter.specs.Gathering.{bytesRead, PieceRead, ToEnd, TextRead, entitiesOf, listedBy, laidBy, Gathered}
 
 -- ---- all entities
 
@@ -41,41 +46,53 @@ module _ (all before places : List ℕ) (i : ℕ) (e : places ≡ over (take i a
 
 -- ---- a text
 
-textOf : (buffer : List ℕ) (piece : Piece) → TextRead buffer piece → List ℕ
-textOf buffer piece t = t .before ++ bytesRead (piece .taken) buffer
+-- what is known before a turn: the roster of some text, which is all that the source handed over
+pub record ReadTo (start : Source) (roster : Roster) (source : Source) : Type 0 where
+  pub text : List ℕ
+  pub listed : roster ≡ readOn begun text
+  pub handed : HandedOver start source text
 
-text-roster : (buffer : List ℕ) (piece : Piece) (t : TextRead buffer piece) → piece .roster ≡ readOn begun (textOf buffer piece t)
-unfolding textOf
-text-roster buffer piece t = t .last .roster ∙ pieces begun (t .before) (bytesRead (piece .taken) buffer)
-
--- a piece goes on with any roster that is the same
-piece-same : {before same : Roster} → before ≡ same → (buffer : List ℕ) (piece : Piece) → PieceRead before buffer piece → PieceRead same buffer piece
-piece-same e buffer piece p = subst (λ (r : Roster). PieceRead r buffer piece) e p
-
-pub first-piece : (start : Roster) (buffer : List ℕ) (piece : Piece) → start ≡ begun → PieceRead start buffer piece → TextRead buffer piece
+pub nothing-read : (start : Source) (roster : Roster) → roster ≡ begun → ReadTo start roster start
 unfolding readOn
-first-piece start buffer piece e p = record { before = []; last = piece-same e buffer piece p }
+nothing-read start roster e = record { text = []; listed = e; handed = nothing-over start }
 
-pub next-piece : (buffer after : List ℕ) (piece next : Piece) → TextRead buffer piece → PieceRead (piece .roster) after next → TextRead after next
-next-piece buffer after piece next t p = record { before = textOf buffer piece t; last = piece-same (text-roster buffer piece t) after next p }
+module _ {start source : Source} {roster : Roster} (r : ReadTo start roster source) (buffer : List ℕ) (piece : Piece) (p : PieceRead roster source buffer piece) where
+  joined : piece .roster ≡ readOn begun (r .text ++ bytesRead (piece .filled) buffer)
+  joined = p .roster ∙ rw (r .listed) (pieces begun (r .text) (bytesRead (piece .filled) buffer))
+
+  pub not-read : piece .filled ≡ filled.Failed → TextRead start buffer piece
+  not-read e = record { before = r .text; roster = joined; to-end = subst (λ (f : Filled). ToEnd start (r .text ++ bytesRead f buffer) f) (sym e) tt }
+
+  module _ {after : Source} {n : ℕ} (e : piece .filled ≡ filled.Bytes after n) where
+    longer : HandedOver start after (r .text ++ take n buffer)
+    longer = over-on start source after (r .text) buffer n (r .handed) (read-further source (length buffer) e (p .filled))
+
+    pub last-read : hasEnded after ≡ true → TextRead start buffer piece
+    last-read d =
+        record { before = r .text; roster = joined; to-end = subst (λ (f : Filled). ToEnd start (r .text ++ bytesRead f buffer) f) (sym e) (longer, d) }
+
+    pub read-to : ReadTo start (piece .roster) after
+    read-to = record { text = r .text ++ take n buffer; listed = joined ∙ rw e; handed = longer }
 
 -- ---- what is handed over
 
-count-listed : {n : ℕ} (more : Bool) (taken : Taken) (entities : List ℕ) → Entities n ≡ listedBy more taken entities → n ≡ length entities
-count-listed true taken entities e = absurd (let z : _≡_ {A = ℕ} 0 1 = cc in omega arith)
-count-listed false (took.Bytes m) entities e = cc
-count-listed false took.Failed entities e = absurd (let z : _≡_ {A = ℕ} 0 1 = cc in omega arith)
+-- what the text lists, from a source that had handed over nothing
+from-start : (start : Source) (text entities : List ℕ) (f : Filled) (listed : Listed) (before after : List ℕ) → JustOpened start → entities ≡ entitiesIn (closed (readOn begun text))
+    → ToEnd start text f → listed ≡ listedBy f entities → after ≡ laidBy listed entities before → Gathered listed before after
+from-start start text entities (filled.Bytes source n) listed before after j s o e l =
+    rw e (record {
+      entities = entities;
+      listed = record { text = text; handed = omega (arith, o .0 .handed, j .handed); ended = o .1; listed = s };
+      there = (refl, rw e at l);
+    })
+from-start start text entities filled.Failed listed before after j s o e l = rw e (rw e at l)
 
-pub gathered : (buffer : List ℕ) (piece : Piece) (listed : Listed) (before after : List ℕ) → TextRead buffer piece
-    → listed ≡ listedBy (piece .more) (piece .taken) (entitiesOf piece) → after ≡ laidBy listed (entitiesOf piece) before → Gathered listed before after
-gathered buffer piece (Entities n) before after t e f =
-    let same : entitiesIn (closed (readOn begun (textOf buffer piece t))) ≡ entitiesOf piece =
-    ap (λ (r : Roster). entitiesIn (closed r)) (sym (text-roster buffer piece t)) in
-    record { entities = entitiesOf piece; source = subst OnList same (typed (textOf buffer piece t)); there = (count-listed (piece .more) (piece .taken) (entitiesOf piece) e, f) }
-gathered buffer piece Endless before after t e f = f
-gathered buffer piece Failed before after t e f = f
+pub gathered : (start : Source) (buffer : List ℕ) (piece : Piece) (listed : Listed) (before after : List ℕ) → JustOpened start → TextRead start buffer piece
+    → listed ≡ listedBy (piece .filled) (entitiesOf piece) → after ≡ laidBy listed (entitiesOf piece) before → Gathered listed before after
+gathered start buffer piece listed before after j t e l =
+    from-start start _ (entitiesOf piece) (piece .filled) listed before after j (ap (λ (r : Roster). entitiesIn (closed r)) (t .roster)) (t .to-end) e l
 
 -- as many entities as are counted are there
-pub inside : {listed : Listed} {n : ℕ} (before after : List ℕ) → listed ≡ Entities n → Gathered listed before after → n ≤ length after
+pub inside : {listed : Listed} {n : ℕ} {basis : Basis} (before after : List ℕ) → listed ≡ Entities n basis → Gathered listed before after → n ≤ length after
 inside before after e g =
     let given = subst (λ (l : Listed). Gathered l before after) e g in counted (given .entities) before (given .there)

@@ -1,6 +1,7 @@
 -- Piece by piece through a tray that no buffer holds.
-use Prim.Native.Nat.{ℕ, _+_, _-_, _%_, _≤_, _<_}
+use Prim.Native.Nat.{ℕ, _+_, _%_, _^_, _<_}
 use native.Mathlib.Omega.{arith}
+use mathlib.Core.Bool.{true, false}
 use mathlib.Core.List.{List, [], _++_, append-assoc, append-nil}
 use mathlib.Core.Path.{_≡_, refl, subst}
 use lib.ListN.{length, take, length-append}
@@ -12,6 +13,9 @@ use Rattle.tray.specs.declared.pieces.Known.the-variants.{Answered}
 use Rattle.tray.specs.Seen.{mostSeen, Seen, ReadOn, Tells}
 use Rattle.tray.proofs.ByPieces.{seen-on}
 use Rattle.desk.proofs.LongTrays.{long-seen}
+use Rattle.files.specs.declared.taking.Source.{Source}
+use Rattle.files.specs.Sources.{handedBy, hasEnded, ReadFurther, HandedOver}
+use Rattle.files.proofs.Parts.{nothing-over, over-on, full}
 use Rattle.counter.specs.declared.trays.Piece.{Piece}
 use Rattle.counter.specs.declared.trays.Piece.the-variants.{Read}
 use Rattle.counter.specs.declared.trays.Reached.{Reached}
@@ -19,57 +23,62 @@ use Rattle.counter.specs.declared.trays.Reached.the-variants.{End}
 use Rattle.counter.specs.Looking.{LookedOn, SeenToEnd, LookedThrough, AnsweredWhole}
 
 -- a further piece is some of the bytes in the buffer
-pub further : (seen : Pieces) (buffer : List ℕ) {r : Piece} {n : ℕ} {after : Pieces} → r ≡ Read n after → LookedOn seen buffer r
-    → (n ≤ length buffer) × ReadOn seen (take n buffer) after
-further seen buffer e w = subst (LookedOn seen buffer) e w
+pub further : (seen : Pieces) (before : Source) (buffer : List ℕ) {r : Piece} {after : Source} {n : ℕ} {known : Pieces} → r ≡ Read after n known
+    → LookedOn seen before buffer r → ReadFurther before n (length buffer) after × ReadOn seen (take n buffer) known
+further seen before buffer e w = subst (LookedOn seen before buffer) e w
 
--- one that is not short fills it
-pub exact : (n room : ℕ) → 960096 ≤ n → n ≤ room → room ≡ 960096 → n ≡ 960096
-exact n room l m e = omega arith
-
--- what is known before a turn: the first piece, and full pieces after it
-pub record SoFar (first : List ℕ) (p : Pieces) : Type 0 where
+-- what is known before a turn: the first piece, and full pieces after it, all that was handed over
+pub record SoFar (first : List ℕ) (start source : Source) (p : Pieces) : Type 0 where
   pub between : List ℕ
-  pub full : length between % 960096 ≡ 0
+  pub whole : length between % 960096 ≡ 0
+  pub handed : HandedOver start source between
   pub seen : Seen p (first ++ between)
 
-pub begins : (first : List ℕ) (b p : Pieces) → Seen b [] → ReadOn b first p → SoFar first p
-begins first b p s o = record { between = []; full = refl; seen = rw append-nil (seen-on b p [] first s refl o) }
+pub begins : (first : List ℕ) (start : Source) (b p : Pieces) → Seen b [] → ReadOn b first p → SoFar first start start p
+begins first start b p s o = record { between = []; whole = refl; handed = nothing-over start; seen = rw append-nil (seen-on b p [] first s refl o) }
 
-module _ {first : List ℕ} (wide : length first ≡ 960096) {p : Pieces} (so : SoFar first p) (buffer : List ℕ) (n : ℕ) (after : Pieces) (o : ReadOn p (take n buffer) after) where
-  joined : Seen after (first ++ (so .between ++ take n buffer))
-  joined = rw append-assoc at (seen-on p after (first ++ so .between) (take n buffer) (so .seen) (omega (arith, length-append first (so .between), so .full)) o)
+module _ {first : List ℕ} (wide : length first ≡ 960096) {start before : Source} {p : Pieces} (so : SoFar first start before p) (buffer : List ℕ) {after : Source} {n : ℕ} {known : Pieces}
+    (on : ReadFurther before n (length buffer) after × ReadOn p (take n buffer) known) where
+  longer : HandedOver start after (so .between ++ take n buffer)
+  longer = over-on start before after (so .between) buffer n (so .handed) (on .0)
 
-  pub goes-on : n ≡ 960096 → n ≤ length buffer → SoFar first after
+  joined : Seen known (first ++ (so .between ++ take n buffer))
+  joined = rw append-assoc at (seen-on p known (first ++ so .between) (take n buffer) (so .seen) (omega (arith, length-append first (so .between), so .whole)) (on .1))
+
+  pub goes-on : hasEnded after ≡ false → length buffer ≡ 960096 → SoFar first start after known
   goes-on e l =
       record {
         between = so .between ++ take n buffer;
-        full = omega (arith, so .full, length-append (so .between) (take n buffer), length-take-le n buffer l);
+        whole = omega (arith, so .whole, full before after n (length buffer) (on .0) e, length-append (so .between) (take n buffer), length-take-le n buffer (on .0 .within));
+        handed = longer;
         seen = joined;
       }
 
-  pub ends : n < 960096 → SeenToEnd first buffer n after
-  ends l = record { wide = wide; between = so .between; full = so .full; short = l; seen = joined }
-
--- a full piece brings the bound nearer
-pub grows : (p after : Pieces) (buffer : List ℕ) (n : ℕ) → p .records ≤ mostSeen → ReadOn p (take n buffer) after → n ≡ 960096 → n ≤ length buffer
-    → after .records ≡ p .records + 10001
-grows p after buffer n m o e l = omega (arith, o .further m .records, length-take-le n buffer l)
-
-pub nearer : (before after : ℕ) → before ≤ mostSeen → after ≡ before + 10001 → mostSeen + 1 - after < mostSeen + 1 - before
-nearer before after l e = omega arith
+  pub ends : hasEnded after ≡ true → SeenToEnd first start buffer after n known
+  ends e = record { wide = wide; between = so .between; handed = longer; ended = e; seen = joined }
 
 -- what was seen to the end, and what is told of it
-pub to-end : (first buffer : List ℕ) {r : Reached} {n : ℕ} {p : Pieces} → r ≡ End n p → LookedThrough first buffer r → SeenToEnd first buffer n p
-to-end first buffer e w = subst (LookedThrough first buffer) e w
+pub to-end : (first : List ℕ) (start : Source) (buffer : List ℕ) {r : Reached} {after : Source} {n : ℕ} {p : Pieces} → r ≡ End after n p → LookedThrough first start buffer r
+    → SeenToEnd first start buffer after n p
+to-end first start buffer e w = subst (LookedThrough first start buffer) e w
+
+-- it is never a tray without end: a source counts its bytes in 64 bits
+pub has-end : (first : List ℕ) (start : Source) (buffer : List ℕ) (after : Source) (n : ℕ) (p : Pieces) → handedBy after < 2 ^ 64 → SeenToEnd first start buffer after n p
+    → mostSeen < p .records → ⊥
+has-end first start buffer after n p b s l =
+    let rest : List ℕ = s .between ++ take n buffer in
+    omega (arith, s .seen .endless l, s .wide, s .handed .handed, length-append first rest)
 
 pub tells : (p : Pieces) (header : List ℕ) {k : Known} {a : Answer} → k ≡ Answered a → Tells p header k → Tells p header (Answered a)
 tells p header e w = subst (Tells p header) e w
 
-pub answers : (header first buffer : List ℕ) (n : ℕ) (p : Pieces) → SeenToEnd first buffer n p → (a : Answer) → Tells p header (Answered a) → AnsweredWhole header first a
-answers header first buffer n p s a t =
+pub answers : (header first : List ℕ) (start : Source) (buffer : List ℕ) (after : Source) (n : ℕ) (p : Pieces) → SeenToEnd first start buffer after n p
+    → (a : Answer) → Tells p header (Answered a) → AnsweredWhole header first start after a
+answers header first start buffer after n p s a t =
     let rest : List ℕ = s .between ++ take n buffer in
     record {
       rest = rest;
+      handed = s .handed;
+      ended = s .ended;
       as-built = λ session before. long-seen session header (first ++ rest) before (omega (arith, s .wide, length-append first rest)) p (s .seen) a t;
     }

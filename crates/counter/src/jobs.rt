@@ -11,7 +11,9 @@ use desk::Session;
 use files::handing;
 use files::handing::Handed;
 use files::taking;
+use files::taking::Filled;
 use files::taking::Opened;
+use files::taking::Source;
 use files::taking::Taken;
 use libc::STDOUT_FILENO;
 use listing::Listing;
@@ -176,27 +178,28 @@ fn build_from(session: Session, header: &[u8]) {
     if length == 0 {
         return;
     }
-    let opened = taking::open(&path[..length]);
-    let Opened::At(fd) = opened else {
+    let opened = Source::open(&path[..length]);
+    let Opened::At(source) = opened else {
         return;
     };
     let mut input = held::input();
-    let taken = taking::fill(fd, &path[..length], &mut input);
-    let Taken::Bytes(n) = taken else {
+    let filled = source.fill(&path[..length], &mut input);
+    let Filled::Bytes(after, n) = filled else {
         return;
     };
-    if n == Held::INPUT {
-        say_long(fd, &path[..length], header, &input);
+    if !after.has_ended() {
+        say_long(after, &path[..length], header, &input);
         return;
     }
+    after.close();
     let mut out = held::output();
     let output = session.build(header, &input[..n], &mut out);
     hand_over(Word::THIRD, output, &out);
 }
 
-fn say_long(fd: i32, path: &[u8], header: &[u8], first: &[u8; Held::INPUT]) {
-    let looked = trays::look(fd, path, header, first);
-    let Looked::Found(answer) = looked else {
+fn say_long(source: Source, path: &[u8], header: &[u8], first: &[u8; Held::INPUT]) {
+    let looked = trays::look(source, path, header, first);
+    let Looked::Found(answer, _) = looked else {
         return;
     };
     say(answer);

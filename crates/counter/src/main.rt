@@ -57,12 +57,6 @@ fn usage() {
     );
 }
 
-// Of a roster or a tray that is read to its end, and has none.
-fn say_endless(path: &[u8]) {
-    io::write_all(STDERR_FILENO, path);
-    io::write_all(STDERR_FILENO, b": has no end\n");
-}
-
 fn main() {
     let asked = called();
     let Asked::To(job, currency) = asked else {
@@ -71,7 +65,7 @@ fn main() {
     };
     let mut entities = [0u64; Session::ROSTER];
     let listed = roster::gather(&mut entities);
-    let Listed::Entities(count) = listed else {
+    let Listed::Entities(count, _) = listed else {
         return;
     };
     jobs::run(job, Session::open(date(), currency, &entities[..count]));

@@ -3,28 +3,35 @@ ghost use mathlib.Core.Path.{_≡_};
 ghost use Rattle.paper.specs.Listing.{numbersTo};
 ghost use Rattle.listing.specs.Room.{Written};
 ghost use Rattle.counter.specs.Gathering.{PieceRead, TextRead, entitiesOf, listedBy, laidBy, Gathered};
-use crate::say_endless;
 use desk::Session;
 use files::taking;
+use files::taking::Filled;
 use files::taking::Opened;
-use files::taking::Taken;
+use files::taking::Source;
 use listing::Listing;
 use listing::input;
 use typed::call::Word;
 use typed::roster::Roster;
 use typed::words;
 
-// How many entities are listed; or the text has no end, or could not be read, and that was said.
+// What a text is read in pieces of: as many bytes as a large buffer takes.
+const PIECE: usize = 65536;
+
+// The word all; or a text, and its source after the last piece.
+pub(crate) enum Basis {
+    Everyone,
+    Text(Source),
+}
+
+// How many entities are listed, and by what; or the text could not be read, and that was said.
 pub(crate) enum Listed {
-    Entities(usize),
-    Endless,
+    Entities(usize, Basis),
     Failed,
 }
 
-// What is known after a piece of the text: how much was read, whether there may be more, and the roster with it.
+// What is known after a piece of the text: its source, and the roster with it.
 struct Piece {
-    taken: Taken,
-    more: bool,
+    filled: Filled,
     roster: Roster,
 }
 
@@ -43,53 +50,53 @@ fn everyone(entities: &mut [u64; Session::ROSTER]) -> usize
 }
 
 // The next piece, read into the buffer.
-fn read_on(roster: Roster, fd: i32, path: &[u8], buffer: &mut [u8]) -> Piece
-    ensures { λ r. ⌜ PieceRead roster (now (buffer .exit)) r ⌝ }
+fn read_on(roster: Roster, source: Source, path: &[u8], buffer: &mut [u8]) -> Piece
+    ensures { λ r. ⌜ PieceRead roster source (now (buffer .exit)) r ⌝ }
 {
-    let taken = taking::fill(fd, path, buffer);
-    let Taken::Bytes(n) = taken else {
-        return Piece {
-            taken,
-            more: false,
-            roster,
-        };
+    let filled = source.fill(path, buffer);
+    let Filled::Bytes(_, n) = filled else {
+        return Piece { filled, roster };
     };
     let after = roster.read(&buffer[..n]);
     Piece {
-        taken,
-        more: n == buffer.len(),
+        filled,
         roster: after,
     }
 }
 
-// The text to its last piece. A loop must end, and nothing says that a file does: no run uses up so many turns.
-fn read_all(fd: i32, path: &[u8], buffer: &mut [u8]) -> Piece
-    ensures { λ r. ⌜ TextRead (now (buffer .exit)) r ⌝ }
+// The text to its last piece. Each full one is counted, so the loop ends by what the source may hand over.
+fn read_all(source: Source, path: &[u8], buffer: &mut [u8; PIECE]) -> Piece
+    ensures { λ r. ⌜ TextRead source (now (buffer .exit)) r ⌝ }
 {
-    let mut after = read_on(Roster::begun(), fd, path, buffer);
-    let mut turns = u64::MAX;
-    while turns > 0 && after.more {
-        let roster = after.roster;
-        after = read_on(roster, fd, path, buffer);
-        turns -= 1;
+    let mut roster = Roster::begun();
+    let mut before = source;
+    loop {
+        let piece = read_on(roster, before, path, buffer);
+        let filled = piece.filled;
+        let Filled::Bytes(after, _) = filled else {
+            return piece;
+        };
+        if after.has_ended() {
+            return piece;
+        }
+        before = after;
+        roster = piece.roster;
     }
-    after
 }
 
 // What the text lists where its last piece was read.
-fn listed_by(after: Piece, entities: &mut [u64; Session::ROSTER]) -> Listed
-    ensures { λ r. ⌜ (r ≡ listedBy (after .more) (after .taken) (entitiesOf after))
-        × (now (entities .exit) ≡ laidBy r (entitiesOf after) (now (entities .entry))) ⌝ }
+fn listed_by(piece: Piece, entities: &mut [u64; Session::ROSTER]) -> Listed
+    ensures { λ r. ⌜ (r ≡ listedBy (piece .filled) (entitiesOf piece))
+        × (now (entities .exit) ≡ laidBy r (entitiesOf piece) (now (entities .entry))) ⌝ }
 {
-    if after.more {
-        return Listed::Endless;
-    }
-    let taken = after.taken;
-    if let Taken::Failed = taken {
+    let filled = piece.filled;
+    let Filled::Bytes(source, _) = filled else {
         return Listed::Failed;
-    }
-    let roster = after.roster;
-    Listed::Entities(roster.closed().entities(entities))
+    };
+    source.close();
+    let roster = piece.roster;
+    let count = roster.closed().entities(entities);
+    Listed::Entities(count, Basis::Text(source))
 }
 
 pub(crate) fn gather(entities: &mut [u64; Session::ROSTER]) -> Listed
@@ -101,18 +108,13 @@ pub(crate) fn gather(entities: &mut [u64; Session::ROSTER]) -> Listed
         return Listed::Failed;
     }
     if words::is(&path[..length], b"all") {
-        return Listed::Entities(everyone(entities));
+        return Listed::Entities(everyone(entities), Basis::Everyone);
     }
-    let opened = taking::open(&path[..length]);
-    let Opened::At(fd) = opened else {
+    let opened = Source::open(&path[..length]);
+    let Opened::At(source) = opened else {
         return Listed::Failed;
     };
     let mut buffer = io::large_buffer();
-    let after = read_all(fd, &path[..length], &mut buffer);
-    libc::close(fd);
-    let listed = listed_by(after, entities);
-    if let Listed::Endless = listed {
-        say_endless(&path[..length]);
-    }
-    listed
+    let piece = read_all(source, &path[..length], &mut buffer);
+    listed_by(piece, entities)
 }

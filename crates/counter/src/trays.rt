@@ -2,80 +2,78 @@
 ghost use Rattle.counter.specs.Looking.{LookedOn, LookedThrough, Looks};
 use crate::held;
 use crate::held::Held;
-use crate::say_endless;
-use files::taking;
-use files::taking::Taken;
+use files::taking::Filled;
+use files::taking::Source;
 use paper::answer::Answer;
 use tray::pieces::Known;
 use tray::pieces::Pieces;
 
-// What was found in a tray; or looking at it failed, and that was said.
+// What was found in a tray, and its source after the last piece; or looking at it failed, and that was said.
 pub(crate) enum Looked {
-    Found(Answer),
+    Found(Answer, Source),
     Failed,
 }
 
-// A further piece: how many bytes, and what is known with them; or reading failed, and that was said.
+// A further piece: the source after it, how many bytes, and what is known with them; or reading failed, and that was said.
 enum Piece {
-    Read(usize, Pieces),
+    Read(Source, usize, Pieces),
     Failed,
 }
 
-// Where looking has come to: the last piece, as above; or past all that is looked at; or reading failed.
+// Where looking has come to: the last piece, as above; or reading failed.
 enum Reached {
-    End(usize, Pieces),
-    NoEnd,
+    End(Source, usize, Pieces),
     Failed,
 }
 
-fn look_on(seen: Pieces, fd: i32, path: &[u8], buffer: &mut [u8]) -> Piece
-    ensures { λ r. ⌜ LookedOn seen (now (buffer .exit)) r ⌝ }
+fn look_on(seen: Pieces, source: Source, path: &[u8], buffer: &mut [u8]) -> Piece
+    ensures { λ r. ⌜ LookedOn seen source (now (buffer .exit)) r ⌝ }
 {
-    let taken = taking::fill(fd, path, buffer);
-    let Taken::Bytes(n) = taken else {
+    let filled = source.fill(path, buffer);
+    let Filled::Bytes(after, n) = filled else {
         return Piece::Failed;
     };
-    Piece::Read(n, seen.read(&buffer[..n]))
+    Piece::Read(after, n, seen.read(&buffer[..n]))
 }
 
-// A tray has ended where a piece does not fill the buffer. Each full one adds records, so the loop ends by what it has seen.
+// To the last piece. Each full one is counted, so the loop ends by what the source may hand over.
 fn look_through(
     first: &[u8; Held::INPUT],
-    fd: i32,
+    source: Source,
     path: &[u8],
     buffer: &mut [u8; Held::INPUT],
 ) -> Reached
-    ensures { λ r. ⌜ LookedThrough (now (first .entry)) (now (buffer .exit)) r ⌝ }
+    ensures { λ r. ⌜ LookedThrough (now (first .entry)) source (now (buffer .exit)) r ⌝ }
 {
     let mut seen = Pieces::begun().read(first);
-    while seen.records <= Pieces::MOST {
-        let piece = look_on(seen, fd, path, buffer);
-        let Piece::Read(n, after) = piece else {
+    let mut before = source;
+    loop {
+        let piece = look_on(seen, before, path, buffer);
+        let Piece::Read(after, n, known) = piece else {
             return Reached::Failed;
         };
-        if n < Held::INPUT {
-            return Reached::End(n, after);
+        if after.has_ended() {
+            return Reached::End(after, n, known);
         }
-        seen = after;
+        before = after;
+        seen = known;
     }
-    Reached::NoEnd
 }
 
 // The first piece was read, and fills its buffer.
-pub(crate) fn look(fd: i32, path: &[u8], header: &[u8], first: &[u8; Held::INPUT]) -> Looked
-    ensures { λ r. ⌜ Looks (now (header .entry)) (now (first .entry)) r ⌝ }
+pub(crate) fn look(source: Source, path: &[u8], header: &[u8], first: &[u8; Held::INPUT]) -> Looked
+    ensures { λ r. ⌜ Looks (now (header .entry)) (now (first .entry)) source r ⌝ }
 {
     let mut buffer = held::input();
-    let reached = look_through(first, fd, path, &mut buffer);
-    if let Reached::Failed = reached {
+    let reached = look_through(first, source, path, &mut buffer);
+    let Reached::End(after, _, seen) = reached else {
         return Looked::Failed;
-    }
-    if let Reached::End(_, seen) = reached {
-        let known = seen.answer(header);
-        if let Known::Answered(answer) = known {
-            return Looked::Found(answer);
-        }
-    }
-    say_endless(path);
-    Looked::Failed
+    };
+    after.close();
+    let known = seen.answer(header);
+    // no source hands over more records than are looked at
+    let Known::Answered(answer) = known else {
+        return Looked::Failed;
+    };
+    Looked::Found(answer, after)
 }

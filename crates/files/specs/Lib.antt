@@ -1,3 +1,3 @@
 pub mod Counted
-pub mod Opened
+pub mod Sources
 pub mod Handed

@@ -1,29 +1,28 @@
 use borrow.Author.Needs.{needs}
 use Rattle.desk.proofs.Building.{build-inside}
-use Rattle.files.proofs.Parts.{taken, front}
+use Rattle.files.proofs.Parts.{read-further, front}
 use Rattle.counter.proofs.Written.{fits}
 use Rattle.counter.proofs.jobs.build_from.Statement.{statement}
 use Rattle.counter.proofs.jobs.build_from.Tie as tie
 
 inside : tie.Need-array-share-prefix-input
-inside c = let m = c .before .before .before in taken _ (m .taken .given .1) (m .before .before .before .fill .ensures)
+inside c = let f = c .before .before .before .before .before in read-further _ _ (f .filled .given .1) (f .before .before .before .fill .ensures) .within
 
 slice-aggregate-build : tie.Need-slice-aggregate-build
 slice-aggregate-build c = front _ _ (inside (c .before))
 
 hand-over-requires : tie.Need-hand-over-requires
 hand-over-requires c κs =
-    let m = c .before .before .before .before .before .before .before .before .before .before .before .before in
     let o = c .before .before .build in
-    fits (o .result) (o .last .1 .1 .1 .0) (λ n p. build-inside (m .before .before .before .before .before .before .before .before .before .before .before .before .before .before .args .session) _ _ _ _ _ (o .ensures) p)
+    fits (o .result) (o .last .1 .1 .1 .0) (λ n p. build-inside (c .before .before .before .before .before .before .before .before .before .before .before .before .before .before .before .before .before .before .before .before .before .before .before .before .before .before .before .before .args .session) _ _ _ _ _ (o .ensures) p)
 
 pub build-from-spec : {M : Type 1} → statement M
 build-from-spec =
     tie.close
     (tie.spec
     (λ c κs. search needs) (λ c. search needs) (λ c κs. search needs) (λ c. search needs) (λ c. search needs) (λ c. search needs) (λ c κs. search needs) (λ c. search needs) (λ c. search needs) (λ c. search needs)
-    (λ c κs. search needs) (λ c. search needs) (λ c. search needs) (λ c. search needs) (λ c κs. search needs) (λ c. search needs) (λ c. search needs) (λ c. search needs)
-    (λ c. search needs) (λ c. search needs) (λ c κs. search needs) (λ c. search needs) (λ c κs. search needs)
+    (λ c κs. search needs) (λ c. search needs) (λ c. search needs) (λ c. search needs) (λ c κs. search needs) (λ c. search needs) (λ c. search needs) (λ c. search needs) (λ c κs. search needs) (λ c. search needs)
+    (λ c. search needs) (λ c κs. search needs) (λ c. search needs) (λ c κs. search needs) (λ c κs. search needs)
     inside
     slice-aggregate-build
     (λ c. search needs) (λ c κs. search needs) (λ c. search needs)

@@ -1,0 +1,13 @@
+use mathlib.Core.Path.{refl}
+use borrow.Author.Needs.{needs}
+use mir.Syntax.{w32}
+use mir.Val.{toZ, ofZ}
+use Rattle.files.proofs.Parts.{not-below}
+use Rattle.files.proofs.taking.Source.open.Statement.{statement}
+use Rattle.files.proofs.taking.Source.open.Tie as tie
+
+returns-2 : tie.Need-returns-2
+returns-2 c = record { descriptor = not-below (toZ w32 (ofZ w32 (c .before .open-read .result))) (c .if1 .left); handed = refl; ended = refl }
+
+pub open-spec : {M : Type 1} → statement M
+open-spec = tie.close (tie.spec (λ c κs. search needs) (λ c κs. search needs) (λ c. search needs) returns-2)
