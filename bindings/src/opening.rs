@@ -22,8 +22,9 @@ pub struct Opening<'a> {
     pub entities: &'a [u64],
 }
 
-/// What the session holds for an entity.
+/// What the session holds for an entity; further figures may come.
 #[derive(Clone, Copy, Debug, Default, PartialEq, Eq)]
+#[non_exhaustive]
 pub struct Cell {
     /// In cents; negative where the entity pays.
     pub position: i64,
@@ -34,6 +35,7 @@ pub struct Cell {
 
 /// All that a day leaves behind.
 #[derive(Clone, Debug, PartialEq, Eq)]
+#[non_exhaustive]
 pub struct Day {
     /// As [`Opening::answer`].
     pub opening: Result<(), Refusal>,

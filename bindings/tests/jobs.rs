@@ -38,11 +38,8 @@ fn day_with_the_file_twice() {
         (402, -12_500, 0, 1),
         (403, -47_500, 1, 1),
     ] {
-        expected[entity] = Cell {
-            position,
-            sent,
-            received,
-        };
+        let cell = &mut expected[entity];
+        (cell.position, cell.sent, cell.received) = (position, sent, received);
     }
     assert_eq!(day.cells, expected);
 }

@@ -8,7 +8,7 @@ use lib.ListN.{length, length-append}
 use Rattle.paper.specs.declared.record.Kind.the-variants.{Individual, Additional}
 use Rattle.paper.specs.Fields.{field, number}
 use Rattle.paper.specs.Controls.{zeros}
-use Rattle.paper.specs.Reading.{Counts, counted}
+use Rattle.paper.specs.Reading.{Reckoning, counted}
 use Rattle.paper.specs.Writing.{joined, numbered, batchControlOf, settled, owedBefore, settledBefore, withControls}
 use Rattle.paper.proofs.Grouping.{Is}
 use Rattle.paper.proofs.Lists.{Sized, sized-append, joined-append, length-joined, length-numbered}
@@ -35,7 +35,7 @@ length-block n header own h z =
 -- ---- controls
 
 -- the counts after a batch's own records; k is the number of the last individual one
-abbrev pub past : Counts → List (List ℕ) → ℕ → Counts
+abbrev pub past : Reckoning → List (List ℕ) → ℕ → Reckoning
 past c rs k = record {
   place = c .place + length rs;
   header = c .header;
@@ -45,14 +45,14 @@ past c rs k = record {
   closed = c .closed;
 }
 
-one-past : (c : Counts) (r : List ℕ) (rest : List (List ℕ)) → Is Individual r ⊎ Is Additional r
+one-past : (c : Reckoning) (r : List ℕ) (rest : List (List ℕ)) → Is Individual r ⊎ Is Additional r
     → (k : ℕ) × (withControls c (r ∷ rest) ≡ r ∷ withControls (past c (r ∷ []) k) rest)
 unfolding withControls owedBefore settledBefore counted tallied withRecord
 one-past c r rest (inl h) = (number (field r 88 94), rw (h .0) refl)
 one-past c r rest (inr h) = (c .counter, rw (h .0) refl)
 
 -- no control comes before or among them
-pub controls-past : (c : Counts) (rs rest : List (List ℕ)) → Within rs
+pub controls-past : (c : Reckoning) (rs rest : List (List ℕ)) → Within rs
     → (k : ℕ) × (withControls c (rs ++ rest) ≡ rs ++ withControls (past c rs k) rest)
 unfolding tallied
 controls-past c [] rest w = (c .counter, let e : c .place + 0 ≡ c .place = omega arith in rw e refl)
@@ -62,7 +62,7 @@ controls-past c (r ∷ rs) rest w =
     let e : c .place + suc (length rs) ≡ c .place + 1 + length rs = omega arith in
     (later .0, first .1 ∙ rw e (ap (λ (l : List (List ℕ)). r ∷ l) (later .1)))
 
-pub settled-batches : (n : ℕ) (c : Counts) → settled n c .batches ≡ c .batches
+pub settled-batches : (n : ℕ) (c : Reckoning) → settled n c .batches ≡ c .batches
 unfolding settled counted
 settled-batches zero c = refl
 settled-batches (suc n) c = refl

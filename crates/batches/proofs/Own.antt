@@ -15,14 +15,14 @@ use Rattle.paper.proofs.Grouping.{Is}
 use Rattle.paper.proofs.Lists.{Sized}
 use Rattle.state.specs.Bounds.{Below}
 use Rattle.state.proofs.Bounds.{below-more, below-additional, below-individual}
-use Rattle.batches.specs.Blocks.{opens, ownAt, ownOf, withRecord, tallied}
+use Rattle.batches.specs.Blocks.{opensBatch, ownAt, ownOf, withRecord, tallied}
 
 -- ---- which they are
 
 pub own-sized : (rs : List (List ℕ)) → Sized 94 rs → Sized 94 (ownOf rs)
 unfolding ownOf
 own-sized [] z = tt
-own-sized (r ∷ rs) z = go (opens (kindOf r)) (own-sized rs (z .1))
+own-sized (r ∷ rs) z = go (opensBatch (kindOf r)) (own-sized rs (z .1))
   where
     go : (b : Bool) → Sized 94 (ownOf rs) → Sized 94 (cond b [] (r ∷ ownOf rs))
     go true o = tt
@@ -31,7 +31,7 @@ own-sized (r ∷ rs) z = go (opens (kindOf r)) (own-sized rs (z .1))
 pub own-fewer : (rs : List (List ℕ)) → length (ownOf rs) ≤ length rs
 unfolding ownOf
 own-fewer [] = omega arith
-own-fewer (r ∷ rs) = go (opens (kindOf r)) (own-fewer rs)
+own-fewer (r ∷ rs) = go (opensBatch (kindOf r)) (own-fewer rs)
   where
     go : (b : Bool) → length (ownOf rs) ≤ length rs → length (cond b [] (r ∷ ownOf rs)) ≤ suc (length rs)
     go true o = omega arith
@@ -39,15 +39,15 @@ own-fewer (r ∷ rs) = go (opens (kindOf r)) (own-fewer rs)
 
 pub own-one : (r : List ℕ) (rs : List (List ℕ)) → ownAt (r ∷ rs) ≡ true → ownOf (r ∷ rs) ≡ r ∷ ownOf rs
 unfolding ownAt ownOf
-own-one r rs h = rw (not-true (opens (kindOf r)) h) refl
+own-one r rs h = rw (not-true (opensBatch (kindOf r)) h) refl
 
 pub own-none : (rs : List (List ℕ)) → ownAt rs ≡ false → ownOf rs ≡ []
 unfolding ownAt ownOf
 own-none [] h = refl
-own-none (r ∷ rs) h = rw (not-false (opens (kindOf r)) h) refl
+own-none (r ∷ rs) h = rw (not-false (opensBatch (kindOf r)) h) refl
 
 -- a record of the batch stands at an index, or none
-pub own-there : (rs : List (List ℕ)) (i : ℕ) {r : List ℕ} {more : List (List ℕ)} → drop i rs ≡ r ∷ more → (b : Bool) → b ≡ opens (kindOf r) → not b ≡ ownAt (drop i rs)
+pub own-there : (rs : List (List ℕ)) (i : ℕ) {r : List ℕ} {more : List (List ℕ)} → drop i rs ≡ r ∷ more → (b : Bool) → b ≡ opensBatch (kindOf r) → not b ≡ ownAt (drop i rs)
 unfolding ownAt
 own-there rs i h b e = rw (h, e) refl
 
@@ -67,8 +67,8 @@ abbrev pub Within : List (List ℕ) → Type 0
 Within [] = Unit {0}
 Within (r ∷ rs) = (Is Individual r ⊎ Is Additional r) × Within rs
 
-pub stays : (r : List ℕ) → Is Individual r ⊎ Is Additional r → opens (kindOf r) ≡ false
-unfolding opens
+pub stays : (r : List ℕ) → Is Individual r ⊎ Is Additional r → opensBatch (kindOf r) ≡ false
+unfolding opensBatch
 stays r (inl h) = rw (h .0) refl
 stays r (inr h) = rw (h .0) refl
 

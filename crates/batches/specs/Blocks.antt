@@ -9,24 +9,24 @@ use Rattle.paper.specs.Kinds.{kindOf}
 use Rattle.paper.specs.Controls.{zeros, withIndividual, withAdditional}
 use Rattle.paper.specs.Writing.{numbered, batchControlOf}
 
-unfoldable pub opens : Kind → Bool
-opens FileHeader = false
-opens BatchHeader = true
-opens Individual = false
-opens Additional = false
-opens BatchControl = false
-opens FileControl = false
-opens Other = false
+unfoldable pub opensBatch : Kind → Bool
+opensBatch FileHeader = false
+opensBatch BatchHeader = true
+opensBatch Individual = false
+opensBatch Additional = false
+opensBatch BatchControl = false
+opensBatch FileControl = false
+opensBatch Other = false
 
 -- the records before the next batch header
 unfoldable pub ownOf : List (List ℕ) → List (List ℕ)
 ownOf [] = []
-ownOf (r ∷ rs) = cond (opens (kindOf r)) [] (r ∷ ownOf rs)
+ownOf (r ∷ rs) = cond (opensBatch (kindOf r)) [] (r ∷ ownOf rs)
 
 -- whether a list begins with such a record
 unfoldable pub ownAt : List (List ℕ) → Bool
 ownAt [] = false
-ownAt (r ∷ rs) = not (opens (kindOf r))
+ownAt (r ∷ rs) = not (opensBatch (kindOf r))
 
 -- what a control counts of a record
 unfoldable pub withRecord : Kind → Tally → List ℕ → Tally

@@ -4,7 +4,7 @@ ghost use Prim.Native.Nat.{_^_, _≤_};
 ghost use lib.ListN.{length};
 ghost use Rattle.paper.specs.Kinds.{kindOf};
 ghost use Rattle.state.specs.Bounds.{Below};
-ghost use Rattle.batches.specs.Blocks.{opens, withRecord};
+ghost use Rattle.batches.specs.Blocks.{opensBatch, withRecord};
 use field::kind;
 use paper::record::Kind;
 use paper::record::Tally;
@@ -14,7 +14,7 @@ pub mod records;
 
 pub fn opens(rec: &[u8]) -> bool
     requires { ⌜ 1 ≤ length (now rec) ⌝ }
-    ensures { λ r. ⌜ r ≡ opens (kindOf (now (rec .entry))) ⌝ }
+    ensures { λ r. ⌜ r ≡ opensBatch (kindOf (now (rec .entry))) ⌝ }
 {
     match kind::kind(rec) {
         Kind::BatchHeader => true,

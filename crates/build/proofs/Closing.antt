@@ -7,11 +7,11 @@ use native.Mathlib.Omega.{arith}
 use lib.ListN.{length, drop}
 use Rattle.paper.specs.declared.record.Kind.the-variants.{FileHeader, BatchHeader, Individual, Additional}
 use Rattle.paper.specs.Controls.{zeros, plus}
-use Rattle.paper.specs.Reading.{Counts, nothingCounted, counted}
+use Rattle.paper.specs.Reading.{Reckoning, nothingCounted, counted}
 use Rattle.paper.specs.Writing.{batchControlOf, fileControlOf, owed, settled, owedBefore, settledBefore, ending, withControls}
 use Rattle.paper.proofs.Grouping.{Is}
 use Rattle.paper.proofs.Lists.{Sized}
-use Rattle.batches.specs.Blocks.{opens, ownOf, tallied}
+use Rattle.batches.specs.Blocks.{opensBatch, ownOf, tallied}
 use Rattle.batches.proofs.Own.{Within, stays}
 use Rattle.batches.proofs.Blocks.{past, controls-past}
 
@@ -44,7 +44,7 @@ record Split (rs : List (List ℕ)) : Type 0 where
   pub heads : Heads (drop (length (ownOf rs)) rs)
 
 split : (rs : List (List ℕ)) → Plain rs → Split rs
-unfolding ownOf opens
+unfolding ownOf opensBatch
 split [] p = record { within = tt; all = refl; heads = tt }
 split (r ∷ rs) p = one (p .0) (split rs (p .1))
   where
@@ -57,19 +57,19 @@ split (r ∷ rs) p = one (p .0) (split rs (p .1))
     }
 
 -- what is still to be written once all batches so far are closed
-unfoldable pub remaining : Counts → List (List ℕ) → List (List ℕ)
+unfoldable pub remaining : Reckoning → List (List ℕ) → List (List ℕ)
 remaining d [] = fileControlOf (d .place + 1) (d .batches) (d .closed) ∷ []
 remaining d (h ∷ rs) = h ∷ withControls (counted BatchHeader d h) rs
 
 -- the open batch is closed first
-controls-remaining : (c : Counts) (rs : List (List ℕ)) → Heads rs → withControls c rs ≡ owed (c .batches) c ++ remaining (settled (c .batches) c) rs
+controls-remaining : (c : Reckoning) (rs : List (List ℕ)) → Heads rs → withControls c rs ≡ owed (c .batches) c ++ remaining (settled (c .batches) c) rs
 unfolding remaining withControls ending owedBefore settledBefore
 controls-remaining c [] h = refl
 controls-remaining c (r ∷ rs) h = rw (h .0) refl
 
 -- what stands before the first batch is counted by no control
 pub record Begun (header : List ℕ) (rs : List (List ℕ)) : Type 0 where
-  pub counts : Counts
+  pub counts : Reckoning
   pub place : counts .place ≡ length (ownOf rs) + 1
   pub batches : counts .batches ≡ 0
   pub closed : counts .closed ≡ zeros
@@ -82,9 +82,9 @@ begins header rs p =
     let s = split rs p in
     let own : List (List ℕ) = ownOf rs in
     let rest : List (List ℕ) = drop (length own) rs in
-    let c : Counts = counted FileHeader nothingCounted header in
+    let c : Reckoning = counted FileHeader nothingCounted header in
     let inside = controls-past c own rest (s .within) in
-    let d : Counts = past c own (inside .0) in
+    let d : Reckoning = past c own (inside .0) in
     record {
       counts = d;
       place = omega arith;
@@ -95,8 +95,8 @@ begins header rs p =
     }
 
 -- a batch header, its records, its control, and what comes after
-pub record Closed (d : Counts) (header : List ℕ) (rs : List (List ℕ)) : Type 0 where
-  pub counts : Counts
+pub record Closed (d : Reckoning) (header : List ℕ) (rs : List (List ℕ)) : Type 0 where
+  pub counts : Reckoning
   pub place : counts .place ≡ d .place + (length (ownOf rs) + 2)
   pub batches : counts .batches ≡ suc (d .batches)
   pub closed : counts .closed ≡ plus (d .closed) (tallied zeros (ownOf rs))
@@ -104,17 +104,17 @@ pub record Closed (d : Counts) (header : List ℕ) (rs : List (List ℕ)) : Type
       ≡ (header ∷ (ownOf rs ++ batchControlOf header (tallied zeros (ownOf rs)) ∷ [])) ++ remaining counts (drop (length (ownOf rs)) rs)
   pub heads : Heads (drop (length (ownOf rs)) rs)
 
-pub closes : (d : Counts) (header : List ℕ) (rs : List (List ℕ)) → Plain rs → Closed d header rs
+pub closes : (d : Reckoning) (header : List ℕ) (rs : List (List ℕ)) → Plain rs → Closed d header rs
 unfolding remaining counted owed settled
 closes d header rs p =
     let s = split rs p in
     let own : List (List ℕ) = ownOf rs in
     let rest : List (List ℕ) = drop (length own) rs in
-    let c : Counts = counted BatchHeader d header in
+    let c : Reckoning = counted BatchHeader d header in
     let inside = controls-past c own rest (s .within) in
-    let e : Counts = past c own (inside .0) in
+    let e : Reckoning = past c own (inside .0) in
     let control : List ℕ = batchControlOf header (tallied zeros own) in
-    let later : Counts = settled (e .batches) e in
+    let later : Reckoning = settled (e .batches) e in
     record {
       counts = later;
       place = omega arith;

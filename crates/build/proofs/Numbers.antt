@@ -13,7 +13,7 @@ use Rattle.paper.specs.Kinds.{kindOf}
 use Rattle.paper.specs.Writing.{numbered}
 use Rattle.paper.specs.Trays.{batchesAfter, individualsAfter, numberedBy, numbering}
 use Rattle.paper.proofs.Lists.{Sized, kind-numbered}
-use Rattle.batches.specs.Blocks.{opens, ownAt}
+use Rattle.batches.specs.Blocks.{opensBatch, ownAt}
 use Rattle.tray.proofs.Places.{OnTray}
 use Rattle.build.specs.declared.numbering.Numbering.{Numbering}
 use Rattle.build.specs.Numbering.{after, through, lastNumber, numberedFrom}
@@ -96,4 +96,4 @@ kind-kept Other b n r l = refl
 pub own-numbered : (n : Numbering) (rs : List (List ℕ)) → Sized 94 rs → ownAt (numberedFrom n rs) ≡ ownAt rs
 unfolding ownAt numbering
 own-numbered n [] z = refl
-own-numbered n (r ∷ rs) z = ap (λ (k : Kind). not (opens k)) (kind-kept (kindOf r) (n .batches) (n .individuals) r (omega (arith, z .0)))
+own-numbered n (r ∷ rs) z = ap (λ (k : Kind). not (opensBatch k)) (kind-kept (kindOf r) (n .batches) (n .individuals) r (omega (arith, z .0)))

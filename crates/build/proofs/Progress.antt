@@ -6,7 +6,7 @@ use native.Mathlib.Omega.{arith}
 use lib.ListN.{length, take, drop, length-append, length-take}
 use Rattle.paper.specs.declared.record.Tally.{Tally}
 use Rattle.paper.specs.Controls.{zeros}
-use Rattle.paper.specs.Reading.{Counts}
+use Rattle.paper.specs.Reading.{Reckoning}
 use Rattle.paper.specs.Writing.{joined}
 use Rattle.paper.proofs.Lists.{joined-append}
 use Rattle.state.specs.Bounds.{Below}
@@ -38,7 +38,7 @@ pub record Progress (header tray before out : List ℕ) (from at : ℕ) (n : Num
   pub few : (n .batches ≤ done) × (n .individuals ≤ done)
   pub below : Below (done * 10 ^ 10) t
   -- what the controls count, all batches so far closed
-  pub counts : Counts
+  pub counts : Reckoning
   pub place : at ≡ counts .place * 94
   pub batches : counts .batches ≡ n .batches
   pub closed : counts .closed ≡ t

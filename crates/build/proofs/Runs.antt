@@ -13,7 +13,7 @@ use Rattle.paper.specs.Writing.{numbered}
 use Rattle.paper.specs.Trays.{batchesAfter, individualsAfter, numberedBy, numbering}
 use Rattle.paper.proofs.Lists.{Sized, length-numbered}
 use Rattle.paper.proofs.Grouping.{Is}
-use Rattle.batches.specs.Blocks.{opens, ownOf}
+use Rattle.batches.specs.Blocks.{opensBatch, ownOf}
 use Rattle.batches.proofs.Own.{stays}
 use Rattle.batches.proofs.Copying.{sized-drop}
 use Rattle.tray.specs.Trays.{bodyAt, bodies, Sound}
@@ -38,7 +38,7 @@ plain-numbering b n (r ∷ rs) p = (carries-numbered b n r (p .0), plain-numberi
 
 -- before the next batch header no batch is counted
 pub own-batches : (n : Numbering) (rs : List (List ℕ)) → Plain rs → through n (take (length (ownOf (numberedFrom n rs))) rs) .batches ≡ n .batches
-unfolding numbering through after batchesAfter individualsAfter ownOf opens
+unfolding numbering through after batchesAfter individualsAfter ownOf opensBatch
 own-batches n [] p = refl
 own-batches n (r ∷ rs) p = go (p .0) (own-batches (after (kindOf r) n) rs (p .1))
   where
@@ -46,8 +46,8 @@ own-batches n (r ∷ rs) p = go (p .0) (own-batches (after (kindOf r) n) rs (p .
     inside (inl h) = rw (h .0) refl
     inside (inr h) = rw (h .0) refl
 
-    kept : 87 ≤ length r → opens (kindOf (numberedBy (kindOf r) (n .batches) (n .individuals) r)) ≡ opens (kindOf r)
-    kept l = ap opens (kind-kept (kindOf r) (n .batches) (n .individuals) r l)
+    kept : 87 ≤ length r → opensBatch (kindOf (numberedBy (kindOf r) (n .batches) (n .individuals) r)) ≡ opensBatch (kindOf r)
+    kept l = ap opensBatch (kind-kept (kindOf r) (n .batches) (n .individuals) r l)
 
     go : Carries r → through (after (kindOf r) n) (take (length (ownOf (numberedFrom (after (kindOf r) n) rs))) rs) .batches ≡ after (kindOf r) n .batches
         → through n (take (length (ownOf (numberedFrom n (r ∷ rs)))) (r ∷ rs)) .batches ≡ n .batches

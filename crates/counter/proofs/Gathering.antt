@@ -2,30 +2,35 @@
 use Prim.Native.Nat.{ℕ, zero, suc, _+_, _≤_, _<_}
 use native.Mathlib.Numerals.{add-one}
 use native.Mathlib.Omega.{arith}
-use mathlib.Core.Bool.{true}
+use mathlib.Core.Bool.{true, false}
 use mathlib.Core.List.{List, [], _∷_, _++_}
 use mathlib.Core.Path.{_≡_, refl, sym, ap, _∙_, subst}
 use lib.ListN.{length, getD, take, set, length-append}
 use lib.Seq.{take-suc, take-all, length-take-le}
 use Rattle.paper.specs.Buffers.{over}
+use Rattle.paper.specs.Fields.{is}
 use Rattle.paper.specs.Listing.{numbersTo}
 use Rattle.listing.specs.Room.{Written}
 use Rattle.listing.proofs.Printing.{counted}
+use Rattle.watch.specs.declared.Watch.{Watch}
+use Rattle.watch.specs.Watches.{watchOn}
 use Rattle.typed.specs.declared.roster.Roster.{Roster}
-use Rattle.typed.specs.Rosters.{begun, readOn, closed, entitiesIn}
+use Rattle.typed.specs.declared.roster.Text.{Text}
+use Rattle.typed.specs.Rosters.{begun, readOn}
+use Rattle.typed.specs.Texts.{rosterIn, watchIn, textBegun, textOn}
 use Rattle.typed.proofs.Rosters.{pieces}
 use Rattle.typed.proofs.Steps.{over-snoc}
 use Rattle.files.specs.declared.taking.Source.{Source}
 use Rattle.files.specs.declared.taking.Filled.{Filled}
 use Rattle.files.specs.declared.taking.Filled.the-variants as filled
-use Rattle.files.specs.Sources.{hasEnded, JustOpened, HandedOver}
-use Rattle.files.proofs.Parts.{read-further, nothing-over, over-on}
+use Rattle.files.specs.Sources.{hasEnded, watchOf, JustOpened, ReadFurther}
+use Rattle.files.proofs.Parts.{read-further, handed-none, handed-on}
 use Rattle.counter.specs.declared.roster.Basis.{Basis}
-use Rattle.counter.specs.declared.roster.Basis.the-variants.{Text}
+use Rattle.counter.specs.declared.roster.Basis.the-variants.{Everyone, Typed}
 use Rattle.counter.specs.declared.roster.Piece.{Piece}
 use Rattle.counter.specs.declared.roster.Listed.{Listed}
 use Rattle.counter.specs.declared.roster.Listed.the-variants.{Entities, Failed}
-use Rattle.counter.specs.Gathering.{bytesRead, PieceRead, ToEnd, TextRead, entitiesOf, listedBy, laidBy, Gathered}
+use Rattle.counter.specs.Gathering.{WentOn, PieceRead, WholeRead, ToEnd, entitiesOf, listedBy, laidBy, Gathers}
 
 -- ---- all entities
 
@@ -46,53 +51,60 @@ module _ (all before places : List ℕ) (i : ℕ) (e : places ≡ over (take i a
 
 -- ---- a text
 
--- what is known before a turn: the roster of some text, which is all that the source handed over
-pub record ReadTo (start : Source) (roster : Roster) (source : Source) : Type 0 where
-  pub text : List ℕ
-  pub listed : roster ≡ readOn begun text
-  pub handed : HandedOver start source text
+-- before any byte
+pub nothing-read : (source : Source) (text : Text) → JustOpened source → text ≡ textBegun (watchOf source) → WholeRead source text
+unfolding textBegun readOn
+nothing-read source text j e =
+    record {
+      bytes = [];
+      read = ap rosterIn e;
+      watch = ap watchIn e ∙ sym (j .watch);
+      given = handed-none source j;
+    }
 
-pub nothing-read : (start : Source) (roster : Roster) → roster ≡ begun → ReadTo start roster start
-unfolding readOn
-nothing-read start roster e = record { text = []; listed = e; handed = nothing-over start }
+-- with the bytes that were handed over into the buffer
+further : {source after : Source} {text now : Text} (buffer : List ℕ) (n : ℕ) → WholeRead source text → ReadFurther source n buffer after → now ≡ textOn text (take n buffer)
+    → WholeRead after now
+unfolding textOn
+further {source} {after} buffer n r f e =
+    record {
+      bytes = r .bytes ++ take n buffer;
+      read = ap rosterIn e ∙ ap (λ (x : Roster). readOn x (take n buffer)) (r .read) ∙ pieces begun (r .bytes) (take n buffer);
+      watch = ap watchIn e ∙ ap (λ (w : Watch). watchOn w (take n buffer)) (r .watch) ∙ sym (f .watch);
+      given = handed-on source after (r .bytes) buffer n (r .given) f;
+    }
 
-module _ {start source : Source} {roster : Roster} (r : ReadTo start roster source) (buffer : List ℕ) (piece : Piece) (p : PieceRead roster source buffer piece) where
-  joined : piece .roster ≡ readOn begun (r .text ++ bytesRead (piece .filled) buffer)
-  joined = p .roster ∙ rw (r .listed) (pieces begun (r .text) (bytesRead (piece .filled) buffer))
-
-  pub not-read : piece .filled ≡ filled.Failed → TextRead start buffer piece
-  not-read e = record { before = r .text; roster = joined; to-end = subst (λ (f : Filled). ToEnd start (r .text ++ bytesRead f buffer) f) (sym e) tt }
+module _ {source : Source} {text : Text} (r : WholeRead source text) (buffer : List ℕ) (piece : Piece) (p : PieceRead text source buffer piece) where
+  pub not-read : piece .filled ≡ filled.Failed → ToEnd (piece .filled) (piece .text)
+  not-read e = subst (λ (f : Filled). ToEnd f (piece .text)) (sym e) tt
 
   module _ {after : Source} {n : ℕ} (e : piece .filled ≡ filled.Bytes after n) where
-    longer : HandedOver start after (r .text ++ take n buffer)
-    longer = over-on start source after (r .text) buffer n (r .handed) (read-further source (length buffer) e (p .filled))
+    pub read-to : WholeRead after (piece .text)
+    read-to =
+        further buffer n r (read-further source buffer e (p .filled)) (subst (λ (f : Filled). WentOn f text buffer (piece .text)) e (p .text))
 
-    pub last-read : hasEnded after ≡ true → TextRead start buffer piece
-    last-read d =
-        record { before = r .text; roster = joined; to-end = subst (λ (f : Filled). ToEnd start (r .text ++ bytesRead f buffer) f) (sym e) (longer, d) }
-
-    pub read-to : ReadTo start (piece .roster) after
-    read-to = record { text = r .text ++ take n buffer; listed = joined ∙ rw e; handed = longer }
+    pub last-read : hasEnded after ≡ true → ToEnd (piece .filled) (piece .text)
+    last-read d = subst (λ (f : Filled). ToEnd f (piece .text)) (sym e) (record { whole = read-to; ended = d })
 
 -- ---- what is handed over
 
--- what the text lists, from a source that had handed over nothing
-from-start : (start : Source) (text entities : List ℕ) (f : Filled) (listed : Listed) (before after : List ℕ) → JustOpened start → entities ≡ entitiesIn (closed (readOn begun text))
-    → ToEnd start text f → listed ≡ listedBy f entities → after ≡ laidBy listed entities before → Gathered listed before after
-from-start start text entities (filled.Bytes source n) listed before after j s o e l =
-    rw e (record {
-      entities = entities;
-      listed = record { text = text; handed = omega (arith, o .0 .handed, j .handed); ended = o .1; listed = s };
-      there = (refl, rw e at l);
-    })
-from-start start text entities filled.Failed listed before after j s o e l = rw e (rw e at l)
+-- what the text lists
+pub gathered : (word : List ℕ) (f : Filled) (text : Text) (listed : Listed) (before after : List ℕ) → is word "all" ≡ false → ToEnd f text → listed ≡ listedBy f (entitiesOf text)
+    → after ≡ laidBy listed (entitiesOf text) before → Gathers word listed text before after
+gathered word (filled.Bytes source n) text listed before after w o e l =
+    rw e (record { entities = entitiesOf text; listed = (w, o, refl); there = (refl, rw e at l) })
+gathered word filled.Failed text listed before after w o e l = rw e (rw e at l)
 
-pub gathered : (start : Source) (buffer : List ℕ) (piece : Piece) (listed : Listed) (before after : List ℕ) → JustOpened start → TextRead start buffer piece
-    → listed ≡ listedBy (piece .filled) (entitiesOf piece) → after ≡ laidBy listed (entitiesOf piece) before → Gathered listed before after
-gathered start buffer piece listed before after j t e l =
-    from-start start _ (entitiesOf piece) (piece .filled) listed before after j (ap (λ (r : Roster). entitiesIn (closed r)) (t .roster)) (t .to-end) e l
+-- all of them
+pub all-gathered : (word : List ℕ) (n : ℕ) (text : Text) (listed : Listed) (before after : List ℕ) → is word "all" ≡ true → Written (numbersTo 499) n before after
+    → listed ≡ Entities n Everyone → Gathers word listed text before after
+all-gathered word n text listed before after w t e = rw e (record { entities = numbersTo 499; listed = (w, refl); there = t })
+
+pub none-gathered : (word : List ℕ) (text : Text) (listed : Listed) (buffer : List ℕ) → listed ≡ Failed → Gathers word listed text buffer buffer
+none-gathered word text listed buffer e = rw e refl
 
 -- as many entities as are counted are there
-pub inside : {listed : Listed} {n : ℕ} {basis : Basis} (before after : List ℕ) → listed ≡ Entities n basis → Gathered listed before after → n ≤ length after
-inside before after e g =
-    let given = subst (λ (l : Listed). Gathered l before after) e g in counted (given .entities) before (given .there)
+pub inside : (word : List ℕ) {listed : Listed} {n : ℕ} {basis : Basis} (text : Text) (before after : List ℕ) → listed ≡ Entities n basis → Gathers word listed text before after
+    → n ≤ length after
+inside word text before after e g =
+    let given = subst (λ (l : Listed). Gathers word l text before after) e g in counted (given .entities) before (given .there)

@@ -1,84 +1,100 @@
--- Piece by piece through a tray that no buffer holds.
-use Prim.Native.Nat.{ℕ, _+_, _%_, _^_, _<_}
+-- Piece by piece through a tray.
+use Prim.Native.Nat.{ℕ, _%_, _≤_}
 use native.Mathlib.Omega.{arith}
 use mathlib.Core.Bool.{true, false}
-use mathlib.Core.List.{List, [], _++_, append-assoc, append-nil}
-use mathlib.Core.Path.{_≡_, refl, subst}
+use mathlib.Core.List.{List, [], _++_}
+use mathlib.Core.Path.{_≡_, refl, sym, ap, subst, _∙_}
 use lib.ListN.{length, take, length-append}
 use lib.Seq.{length-take-le}
 use Rattle.paper.specs.declared.answer.Answer.{Answer}
-use Rattle.tray.specs.declared.pieces.Pieces.{Pieces}
+use Rattle.watch.specs.declared.Watch.{Watch}
+use Rattle.watch.specs.Watches.{watchOn}
+use Rattle.tray.specs.declared.pieces.Look.{Look}
 use Rattle.tray.specs.declared.pieces.Known.{Known}
-use Rattle.tray.specs.declared.pieces.Known.the-variants.{Answered}
-use Rattle.tray.specs.Seen.{mostSeen, Seen, ReadOn, Tells}
+use Rattle.tray.specs.declared.pieces.Known.the-variants.{Finite}
+use Rattle.tray.specs.Seen.{Tells}
+use Rattle.tray.specs.Looks.{piecesIn, watchedIn, LookBegun}
 use Rattle.tray.proofs.ByPieces.{seen-on}
 use Rattle.desk.proofs.LongTrays.{long-seen}
 use Rattle.files.specs.declared.taking.Source.{Source}
-use Rattle.files.specs.Sources.{handedBy, hasEnded, ReadFurther, HandedOver}
-use Rattle.files.proofs.Parts.{nothing-over, over-on, full}
+use Rattle.files.specs.Sources.{hasEnded, watchOf, JustOpened}
+use Rattle.files.proofs.Parts.{handed-none, handed-on, full}
 use Rattle.counter.specs.declared.trays.Piece.{Piece}
 use Rattle.counter.specs.declared.trays.Piece.the-variants.{Read}
 use Rattle.counter.specs.declared.trays.Reached.{Reached}
 use Rattle.counter.specs.declared.trays.Reached.the-variants.{End}
-use Rattle.counter.specs.Looking.{LookedOn, SeenToEnd, LookedThrough, AnsweredWhole}
+use Rattle.counter.specs.declared.trays.Took.{Took}
+use Rattle.counter.specs.declared.trays.Took.the-variants.{Whole, Long, Failed}
+use Rattle.counter.specs.Looking.{PieceLooked, LookedOn, LookedAt, LongSoFar, LongToEnd, LookedThrough, WholeTray, AnsweredLong, Takes, Told}
 
--- a further piece is some of the bytes in the buffer
-pub further : (seen : Pieces) (before : Source) (buffer : List ℕ) {r : Piece} {after : Source} {n : ℕ} {known : Pieces} → r ≡ Read after n known
-    → LookedOn seen before buffer r → ReadFurther before n (length buffer) after × ReadOn seen (take n buffer) known
-further seen before buffer e w = subst (LookedOn seen before buffer) e w
+-- ---- pieces
 
--- what is known before a turn: the first piece, and full pieces after it, all that was handed over
-pub record SoFar (first : List ℕ) (start source : Source) (p : Pieces) : Type 0 where
-  pub between : List ℕ
-  pub whole : length between % 960096 ≡ 0
-  pub handed : HandedOver start source between
-  pub seen : Seen p (first ++ between)
+-- a piece is some of the bytes in the buffer
+pub piece-looked : (seen : Look) (before : Source) (buffer : List ℕ) {r : Piece} {after : Source} {n : ℕ} {known : Look} → r ≡ Read after n known
+    → LookedOn seen before buffer r → PieceLooked seen before buffer after n known
+piece-looked seen before buffer e w = subst (LookedOn seen before buffer) e w
 
-pub begins : (first : List ℕ) (start : Source) (b p : Pieces) → Seen b [] → ReadOn b first p → SoFar first start start p
-begins first start b p s o = record { between = []; whole = refl; handed = nothing-over start; seen = rw append-nil (seen-on b p [] first s refl o) }
+-- before any byte
+pub nothing-looked : (source : Source) (look : Look) → JustOpened source → LookBegun (watchOf source) look → LookedAt source look []
+nothing-looked source look j b = record { seen = b .seen; watch = b .watch ∙ sym (j .watch); given = handed-none source j }
 
-module _ {first : List ℕ} (wide : length first ≡ 960096) {start before : Source} {p : Pieces} (so : SoFar first start before p) (buffer : List ℕ) {after : Source} {n : ℕ} {known : Pieces}
-    (on : ReadFurther before n (length buffer) after × ReadOn p (take n buffer) known) where
-  longer : HandedOver start after (so .between ++ take n buffer)
-  longer = over-on start before after (so .between) buffer n (so .handed) (on .0)
-
-  joined : Seen known (first ++ (so .between ++ take n buffer))
-  joined = rw append-assoc at (seen-on p known (first ++ so .between) (take n buffer) (so .seen) (omega (arith, length-append first (so .between), so .whole)) (on .1))
-
-  pub goes-on : hasEnded after ≡ false → length buffer ≡ 960096 → SoFar first start after known
-  goes-on e l =
+module _ {seen : Look} {before after : Source} {buffer : List ℕ} {n : ℕ} {known : Look} (p : PieceLooked seen before buffer after n known) where
+  further : (tray : List ℕ) → length tray % 96 ≡ 0 → LookedAt before seen tray → LookedAt after known (tray ++ take n buffer)
+  further tray w l =
       record {
-        between = so .between ++ take n buffer;
-        whole = omega (arith, so .whole, full before after n (length buffer) (on .0) e, length-append (so .between) (take n buffer), length-take-le n buffer (on .0 .within));
-        handed = longer;
-        seen = joined;
+        seen = seen-on (piecesIn seen) (piecesIn known) tray (take n buffer) (l .seen) w (p .looked .seen);
+        watch = p .looked .watch ∙ ap (λ (x : Watch). watchOn x (take n buffer)) (l .watch) ∙ sym (p .further .watch);
+        given = handed-on before after tray buffer n (l .given) (p .further);
       }
 
-  pub ends : hasEnded after ≡ true → SeenToEnd first start buffer after n known
-  ends e = record { wide = wide; between = so .between; handed = longer; ended = e; seen = joined }
+  read-length : length (take n buffer) ≡ n
+  read-length = length-take-le n buffer (p .further .fits)
 
--- what was seen to the end, and what is told of it
-pub to-end : (first : List ℕ) (start : Source) (buffer : List ℕ) {r : Reached} {after : Source} {n : ℕ} {p : Pieces} → r ≡ End after n p → LookedThrough first start buffer r
-    → SeenToEnd first start buffer after n p
-to-end first start buffer e w = subst (LookedThrough first start buffer) e w
+  -- a further piece, the last or not
+  pub ends : LongSoFar before seen → hasEnded after ≡ true → LongToEnd after known
+  ends so e =
+      record {
+        tray = so .tray ++ take n buffer;
+        long = omega (arith, so .long, length-append (so .tray) (take n buffer));
+        looked = further (so .tray) (so .whole) (so .looked);
+        ended = e;
+      }
 
--- it is never a tray without end: a source counts its bytes in 64 bits
-pub has-end : (first : List ℕ) (start : Source) (buffer : List ℕ) (after : Source) (n : ℕ) (p : Pieces) → handedBy after < 2 ^ 64 → SeenToEnd first start buffer after n p
-    → mostSeen < p .records → ⊥
-has-end first start buffer after n p b s l =
-    let rest : List ℕ = s .between ++ take n buffer in
-    omega (arith, s .seen .endless l, s .wide, s .handed .handed, length-append first rest)
+  pub goes-on : LongSoFar before seen → hasEnded after ≡ false → length buffer ≡ 960096 → LongSoFar after known
+  goes-on so e l =
+      record {
+        tray = so .tray ++ take n buffer;
+        whole = omega (arith, so .whole, full before after n buffer (p .further) e, length-append (so .tray) (take n buffer), read-length);
+        long = omega (arith, so .long, length-append (so .tray) (take n buffer));
+        looked = further (so .tray) (so .whole) (so .looked);
+      }
 
-pub tells : (p : Pieces) (header : List ℕ) {k : Known} {a : Answer} → k ≡ Answered a → Tells p header k → Tells p header (Answered a)
-tells p header e w = subst (Tells p header) e w
+  -- the first piece: all of the tray; or more than any file can be built from
+  module _ (first : LookedAt before seen []) where
+    pub is-whole : hasEnded after ≡ true → WholeTray buffer n after
+    is-whole e = record { fits = p .further .fits; given = further [] refl first .given; ended = e }
 
-pub answers : (header first : List ℕ) (start : Source) (buffer : List ℕ) (after : Source) (n : ℕ) (p : Pieces) → SeenToEnd first start buffer after n p
-    → (a : Answer) → Tells p header (Answered a) → AnsweredWhole header first start after a
-answers header first start buffer after n p s a t =
-    let rest : List ℕ = s .between ++ take n buffer in
-    record {
-      rest = rest;
-      handed = s .handed;
-      ended = s .ended;
-      as-built = λ session before. long-seen session header (first ++ rest) before (omega (arith, s .wide, length-append first rest)) p (s .seen) a t;
-    }
+    pub is-long : hasEnded after ≡ false → length buffer ≡ 960096 → LongSoFar after known
+    is-long e l =
+        let k : length (take n buffer) ≡ 960096 = read-length ∙ full before after n buffer (p .further) e ∙ l in
+        record { tray = take n buffer; whole = omega arith; long = omega arith; looked = further [] refl first }
+
+-- ---- what is told
+
+pub to-end : {r : Reached} {source : Source} {look : Look} → r ≡ End source look → LookedThrough r → LongToEnd source look
+to-end e w = subst LookedThrough e w
+
+pub tells : (look : Look) (header : List ℕ) {k : Known} {a : Answer} → k ≡ Finite a → Tells (piecesIn look) header k → Tells (piecesIn look) header (Finite a)
+tells look header e w = subst (Tells (piecesIn look) header) e w
+
+pub answers : (header : List ℕ) (source : Source) (look : Look) (a : Answer) → LongToEnd source look → Tells (piecesIn look) header (Finite a) → AnsweredLong header a source look
+answers header source look a o t =
+    record { to-end = o; as-built = λ session before. long-seen session header (o .tray) before (o .long) (piecesIn look) (o .looked .seen) a t }
+
+pub whole-fits : (header buffer : List ℕ) {r : Took} {n : ℕ} {source : Source} → r ≡ Whole n source → Takes header buffer r → n ≤ length buffer
+whole-fits header buffer e t = subst (Takes header buffer) e t .fits
+
+pub so-told : (header buffer : List ℕ) (r : Took) → Told header r → Takes header buffer r
+so-told header buffer (Whole n source) t = absurd t
+so-told header buffer (Long a source look) t = t
+so-told header buffer Failed t = tt

@@ -1,55 +1,61 @@
--- A roster as it is gathered: all entities, or those of a text that is read piece by piece to its end.
+-- A roster as it is gathered: all entities, or those of a text that is read piece by piece to its end. No contract can name what the system hands over; but a
+-- source and a text are watched at the same place, and nobody knows which, so that what was read is what was handed over, byte by byte.
 use Prim.Native.Nat.{ℕ}
-use mathlib.Core.Bool.{true}
-use mathlib.Core.List.{List, [], _++_}
+use mathlib.Core.Bool.{true, false}
+use mathlib.Core.List.{List}
 use mathlib.Core.Path.{_≡_}
 use lib.ListN.{length, take}
 use Rattle.paper.specs.Buffers.{over}
+use Rattle.paper.specs.Fields.{is}
 use Rattle.paper.specs.Listing.{numbersTo}
 use Rattle.listing.specs.Room.{Written}
-use Rattle.typed.specs.declared.roster.Roster.{Roster}
+use Rattle.typed.specs.declared.roster.Text.{Text}
 use Rattle.typed.specs.Rosters.{begun, readOn, closed, entitiesIn}
+use Rattle.typed.specs.Texts.{rosterIn, watchIn, textOn}
 use Rattle.files.specs.declared.taking.Source.{Source}
 use Rattle.files.specs.declared.taking.Filled.{Filled}
 use Rattle.files.specs.declared.taking.Filled.the-variants as filled
-use Rattle.files.specs.Sources.{handedBy, hasEnded, AsFilled, HandedOver}
+use Rattle.files.specs.Sources.{hasEnded, watchOf, AsFilled, HandedOver}
 use Rattle.counter.specs.declared.roster.Basis.{Basis}
-use Rattle.counter.specs.declared.roster.Basis.the-variants.{Everyone, Text}
+use Rattle.counter.specs.declared.roster.Basis.the-variants.{Everyone, Typed}
 use Rattle.counter.specs.declared.roster.Piece.{Piece}
 use Rattle.counter.specs.declared.roster.Listed.{Listed}
 use Rattle.counter.specs.declared.roster.Listed.the-variants.{Entities, Failed}
 
 -- ---- a piece of the text
 
--- the bytes that were read into a buffer
-abbrev pub bytesRead : Filled → List ℕ → List ℕ
-bytesRead (filled.Bytes after n) buffer = take n buffer
-bytesRead filled.Failed buffer = []
+-- the text goes on with the very bytes in the buffer
+abbrev pub WentOn : Filled → Text → List ℕ → Text → Type 0
+WentOn (filled.Bytes after n) before buffer text = text ≡ textOn before (take n buffer)
+WentOn filled.Failed before buffer text = Unit {0}
 
--- the roster goes on with the very bytes in the buffer
-pub record PieceRead (before : Roster) (source : Source) (buffer : List ℕ) (piece : Piece) : Type 0 where
-  pub filled : AsFilled source (length buffer) (piece .filled)
-  pub roster : piece .roster ≡ readOn before (bytesRead (piece .filled) buffer)
+pub record PieceRead (before : Text) (source : Source) (buffer : List ℕ) (piece : Piece) : Type 0 where
+  pub filled : AsFilled source buffer (piece .filled)
+  pub text : WentOn (piece .filled) before buffer (piece .text)
 
--- where a piece was read, the text is all that the source handed over, to the end
-abbrev pub ToEnd : Source → List ℕ → Filled → Type 0
-ToEnd start text (filled.Bytes after n) = HandedOver start after text × (hasEnded after ≡ true)
-ToEnd start text filled.Failed = Unit {0}
+-- these bytes were read: they are what the source handed over since it was opened
+pub record WholeRead (source : Source) (text : Text) : Type 0 where
+  pub bytes : List ℕ
+  pub read : rosterIn text ≡ readOn begun bytes
+  pub watch : watchIn text ≡ watchOf source
+  pub given : HandedOver source bytes
 
--- some text was read, of which this is the last piece
-pub record TextRead (start : Source) (buffer : List ℕ) (piece : Piece) : Type 0 where
-  pub before : List ℕ
-  pub roster : piece .roster ≡ readOn begun (before ++ bytesRead (piece .filled) buffer)
-  pub to-end : ToEnd start (before ++ bytesRead (piece .filled) buffer) (piece .filled)
+pub record ReadToEnd (source : Source) (text : Text) : Type 0 where
+  pub whole : WholeRead source text
+  pub ended : hasEnded source ≡ true
+
+abbrev pub ToEnd : Filled → Text → Type 0
+ToEnd (filled.Bytes after n) text = ReadToEnd after text
+ToEnd filled.Failed text = Unit {0}
 
 -- ---- what it lists
 
-abbrev pub entitiesOf : Piece → List ℕ
-entitiesOf piece = entitiesIn (closed (piece .roster))
+abbrev pub entitiesOf : Text → List ℕ
+entitiesOf text = entitiesIn (closed (rosterIn text))
 
 -- a text that could not be read lists nothing
 abbrev pub listedBy : Filled → List ℕ → Listed
-listedBy (filled.Bytes source n) entities = Entities (length entities) (Text source)
+listedBy (filled.Bytes source n) entities = Entities (length entities) (Typed source)
 listedBy filled.Failed entities = Failed
 
 -- the buffer with what is listed in front
@@ -59,25 +65,18 @@ laidBy Failed entities buffer = buffer
 
 -- ---- what is handed over
 
--- what a text lists that has as many bytes as its source handed over, to the end; no contract can say which bytes
-pub record TypedIn (source : Source) (entities : List ℕ) : Type 0 where
-  pub text : List ℕ
-  pub handed : length text ≡ handedBy source
-  pub ended : hasEnded source ≡ true
-  pub listed : entities ≡ entitiesIn (closed (readOn begun text))
-
--- 1 to 499, or what is typed
-abbrev pub OnList : Basis → List ℕ → Type 0
-OnList Everyone entities = entities ≡ numbersTo 499
-OnList (Text source) entities = TypedIn source entities
+-- 1 to 499, for the word all and no other; or what the text lists
+abbrev pub OnList : List ℕ → Basis → Text → List ℕ → Type 0
+OnList word Everyone text entities = (is word "all" ≡ true) × (entities ≡ numbersTo 499)
+OnList word (Typed source) text entities = (is word "all" ≡ false) × ReadToEnd source text × (entities ≡ entitiesOf text)
 
 -- so many entities, first in the buffer
-pub record Given (n : ℕ) (basis : Basis) (before after : List ℕ) : Type 0 where
+pub record Given (word : List ℕ) (n : ℕ) (basis : Basis) (text : Text) (before after : List ℕ) : Type 0 where
   pub entities : List ℕ
-  pub listed : OnList basis entities
+  pub listed : OnList word basis text entities
   pub there : Written entities n before after
 
 -- they are in the buffer, or it is as it was
-abbrev pub Gathered : Listed → List ℕ → List ℕ → Type 0
-Gathered (Entities n basis) before after = Given n basis before after
-Gathered Failed before after = after ≡ before
+abbrev pub Gathers : List ℕ → Listed → Text → List ℕ → List ℕ → Type 0
+Gathers word (Entities n basis) text before after = Given word n basis text before after
+Gathers word Failed text before after = after ≡ before

@@ -2,26 +2,28 @@
 ghost use mathlib.Core.Path.{_≡_};
 ghost use lib.ListN.{length};
 ghost use Rattle.counter.specs.Zeros.{zeroBytes};
-use state::State;
+use desk::Session;
 use tray::Tray;
 
-pub(crate) struct Held;
+pub(crate) struct Size;
 
-impl Held {
+impl Size {
+    // Records of a file, at most.
+    const RECORDS: usize = Session::FILE_LIMIT / Session::RECORD;
     // One record more than a tray that a file can be built from; longer than any file.
-    pub(crate) const INPUT: usize = (State::MOST + 1) * Tray::RECORD;
+    pub(crate) const INPUT: usize = (Size::RECORDS + 1) * Tray::RECORD;
     // The longest tray that a file can be stripped to; longer than any file.
-    pub(crate) const OUTPUT: usize = State::MOST * Tray::RECORD;
+    pub(crate) const OUTPUT: usize = Size::RECORDS * Tray::RECORD;
 }
 
-pub(crate) fn input() -> [u8; Held::INPUT]
+pub(crate) fn input() -> [u8; Size::INPUT]
     ensures { λ r. ⌜ (960096 ≡ length r) × (r ≡ zeroBytes 960096) ⌝ }
 {
-    [0; Held::INPUT]
+    [0; Size::INPUT]
 }
 
-pub(crate) fn output() -> [u8; Held::OUTPUT]
+pub(crate) fn output() -> [u8; Size::OUTPUT]
     ensures { λ r. ⌜ (960000 ≡ length r) × (r ≡ zeroBytes 960000) ⌝ }
 {
-    [0; Held::OUTPUT]
+    [0; Size::OUTPUT]
 }

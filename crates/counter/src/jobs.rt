@@ -3,18 +3,14 @@ ghost use Prim.Native.Nat.{_<_};
 ghost use Rattle.desk.specs.Calls.{Reachable};
 ghost use Rattle.counter.specs.InBuffer.{InBuffer};
 use crate::held;
-use crate::held::Held;
 use crate::trays;
-use crate::trays::Looked;
+use crate::trays::Took;
 use desk::Reply;
 use desk::Session;
 use files::handing;
 use files::handing::Handed;
 use files::taking;
 use files::taking::Filled;
-use files::taking::Opened;
-use files::taking::Source;
-use files::taking::Taken;
 use libc::STDOUT_FILENO;
 use listing::Listing;
 use listing::answers;
@@ -80,7 +76,7 @@ fn hand_over(word: usize, output: Output, out: &[u8])
 fn read(session: Session) {
     let mut input = held::input();
     let taken = taking::file(Word::FIRST, &mut input);
-    let Taken::Bytes(n) = taken else {
+    let Filled::Bytes(_, n) = taken else {
         return;
     };
     say(session.read(&input[..n]));
@@ -98,7 +94,7 @@ fn present_one(session: Session, word: usize) -> Turn
 {
     let mut input = held::input();
     let taken = taking::file(word, &mut input);
-    let Taken::Bytes(n) = taken else {
+    let Filled::Bytes(_, n) = taken else {
         return Turn {
             ready: false,
             session,
@@ -143,7 +139,7 @@ fn entity() -> u64
 fn extract(session: Session) {
     let mut input = held::input();
     let taken = taking::file(Word::SECOND, &mut input);
-    let Taken::Bytes(n) = taken else {
+    let Filled::Bytes(_, n) = taken else {
         return;
     };
     let mut out = held::output();
@@ -154,7 +150,7 @@ fn extract(session: Session) {
 fn strip(session: Session) {
     let mut input = held::input();
     let taken = taking::file(Word::FIRST, &mut input);
-    let Taken::Bytes(n) = taken else {
+    let Filled::Bytes(_, n) = taken else {
         return;
     };
     let mut out = held::output();
@@ -166,7 +162,7 @@ fn build(session: Session) {
     // one byte more than a header body shows that there was more
     let mut header = [0u8; Session::RECORD + 1];
     let taken = taking::file(Word::FIRST, &mut header);
-    let Taken::Bytes(n) = taken else {
+    let Filled::Bytes(_, n) = taken else {
         return;
     };
     build_from(session, &header[..n]);
@@ -178,28 +174,19 @@ fn build_from(session: Session, header: &[u8]) {
     if length == 0 {
         return;
     }
-    let opened = Source::open(&path[..length]);
-    let Opened::At(source) = opened else {
-        return;
-    };
     let mut input = held::input();
-    let filled = source.fill(&path[..length], &mut input);
-    let Filled::Bytes(after, n) = filled else {
+    let took = trays::take(&path[..length], header, &mut input);
+    let Took::Whole(n, _) = took else {
+        say_long(took);
         return;
     };
-    if !after.has_ended() {
-        say_long(after, &path[..length], header, &input);
-        return;
-    }
-    after.close();
     let mut out = held::output();
     let output = session.build(header, &input[..n], &mut out);
     hand_over(Word::THIRD, output, &out);
 }
 
-fn say_long(source: Source, path: &[u8], header: &[u8], first: &[u8; Held::INPUT]) {
-    let looked = trays::look(source, path, header, first);
-    let Looked::Found(answer, _) = looked else {
+fn say_long(took: Took) {
+    let Took::Long(answer, _, _) = took else {
         return;
     };
     say(answer);

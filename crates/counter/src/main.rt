@@ -1,6 +1,7 @@
 // The counter: the desk's five jobs from a shell. Here is reading, calling and writing; what is answered and printed is proved in the crates below.
 ghost use Prim.Native.Nat.{_^_, _<_};
 use desk::Session;
+use files::taking;
 use libc::STDERR_FILENO;
 use roster::Listed;
 use typed::call;
@@ -63,8 +64,14 @@ fn main() {
         usage();
         return;
     };
+    let mut path = io::buffer();
+    let length = taking::name(Word::ROSTER, &mut path);
+    if length == 0 {
+        return;
+    }
     let mut entities = [0u64; Session::ROSTER];
-    let listed = roster::gather(&mut entities);
+    let roll = roster::gather(&path[..length], &mut entities);
+    let listed = roll.listed;
     let Listed::Entities(count, _) = listed else {
         return;
     };

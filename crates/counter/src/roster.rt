@@ -2,17 +2,17 @@
 ghost use mathlib.Core.Path.{_≡_};
 ghost use Rattle.paper.specs.Listing.{numbersTo};
 ghost use Rattle.listing.specs.Room.{Written};
-ghost use Rattle.counter.specs.Gathering.{PieceRead, TextRead, entitiesOf, listedBy, laidBy, Gathered};
+ghost use Rattle.files.specs.Sources.{JustOpened};
+ghost use Rattle.counter.specs.Gathering.{PieceRead, ToEnd, entitiesOf, listedBy, laidBy, Gathers};
 use desk::Session;
-use files::taking;
 use files::taking::Filled;
-use files::taking::Opened;
+use files::taking::Readable;
 use files::taking::Source;
 use listing::Listing;
 use listing::input;
-use typed::call::Word;
-use typed::roster::Roster;
+use typed::roster::Text;
 use typed::words;
+use watch::Watch;
 
 // What a text is read in pieces of: as many bytes as a large buffer takes.
 const PIECE: usize = 65536;
@@ -20,7 +20,7 @@ const PIECE: usize = 65536;
 // The word all; or a text, and its source after the last piece.
 pub(crate) enum Basis {
     Everyone,
-    Text(Source),
+    Typed(Source),
 }
 
 // How many entities are listed, and by what; or the text could not be read, and that was said.
@@ -29,10 +29,16 @@ pub(crate) enum Listed {
     Failed,
 }
 
-// What is known after a piece of the text: its source, and the roster with it.
+// The same, and all that was read.
+pub(crate) struct Roll {
+    pub(crate) listed: Listed,
+    text: Text,
+}
+
+// What is known after a piece of the text: its source, and the text with it.
 struct Piece {
     filled: Filled,
-    roster: Roster,
+    text: Text,
 }
 
 fn everyone(entities: &mut [u64; Session::ROSTER]) -> usize
@@ -50,28 +56,29 @@ fn everyone(entities: &mut [u64; Session::ROSTER]) -> usize
 }
 
 // The next piece, read into the buffer.
-fn read_on(roster: Roster, source: Source, path: &[u8], buffer: &mut [u8]) -> Piece
-    ensures { λ r. ⌜ PieceRead roster source (now (buffer .exit)) r ⌝ }
+fn read_on(text: Text, source: Source, path: &[u8], buffer: &mut [u8]) -> Piece
+    ensures { λ r. ⌜ PieceRead text source (now (buffer .exit)) r ⌝ }
 {
     let filled = source.fill(path, buffer);
     let Filled::Bytes(_, n) = filled else {
-        return Piece { filled, roster };
+        return Piece { filled, text };
     };
-    let after = roster.read(&buffer[..n]);
+    let after = text.read(&buffer[..n]);
     Piece {
         filled,
-        roster: after,
+        text: after,
     }
 }
 
 // The text to its last piece. Each full one is counted, so the loop ends by what the source may hand over.
 fn read_all(source: Source, path: &[u8], buffer: &mut [u8; PIECE]) -> Piece
-    ensures { λ r. ⌜ TextRead source (now (buffer .exit)) r ⌝ }
+    requires { ⌜ JustOpened source ⌝ }
+    ensures { λ r. ⌜ ToEnd (r .filled) (r .text) ⌝ }
 {
-    let mut roster = Roster::begun();
+    let mut text = Text::begun(source.watch());
     let mut before = source;
     loop {
-        let piece = read_on(roster, before, path, buffer);
+        let piece = read_on(text, before, path, buffer);
         let filled = piece.filled;
         let Filled::Bytes(after, _) = filled else {
             return piece;
@@ -80,41 +87,50 @@ fn read_all(source: Source, path: &[u8], buffer: &mut [u8; PIECE]) -> Piece
             return piece;
         }
         before = after;
-        roster = piece.roster;
+        text = piece.text;
     }
 }
 
 // What the text lists where its last piece was read.
 fn listed_by(piece: Piece, entities: &mut [u64; Session::ROSTER]) -> Listed
-    ensures { λ r. ⌜ (r ≡ listedBy (piece .filled) (entitiesOf piece))
-        × (now (entities .exit) ≡ laidBy r (entitiesOf piece) (now (entities .entry))) ⌝ }
+    ensures { λ r. ⌜ (r ≡ listedBy (piece .filled) (entitiesOf (piece .text)))
+        × (now (entities .exit) ≡ laidBy r (entitiesOf (piece .text)) (now (entities .entry))) ⌝ }
 {
     let filled = piece.filled;
     let Filled::Bytes(source, _) = filled else {
         return Listed::Failed;
     };
     source.close();
-    let roster = piece.roster;
-    let count = roster.closed().entities(entities);
-    Listed::Entities(count, Basis::Text(source))
+    let text = piece.text;
+    let count = text.roster().closed().entities(entities);
+    Listed::Entities(count, Basis::Typed(source))
 }
 
-pub(crate) fn gather(entities: &mut [u64; Session::ROSTER]) -> Listed
-    ensures { λ r. ⌜ Gathered r (now (entities .entry)) (now (entities .exit)) ⌝ }
+// Nothing was read.
+fn without_text(listed: Listed) -> Roll
+    ensures { λ r. ⌜ r .listed ≡ listed ⌝ }
 {
-    let mut path = io::buffer();
-    let length = taking::name(Word::ROSTER, &mut path);
-    if length == 0 {
-        return Listed::Failed;
+    Roll {
+        listed,
+        text: Text::begun(Watch::at(0)),
     }
-    if words::is(&path[..length], b"all") {
-        return Listed::Entities(everyone(entities), Basis::Everyone);
+}
+
+// What the word lists: all, or the text under that name.
+pub(crate) fn gather(path: &[u8], entities: &mut [u64; Session::ROSTER]) -> Roll
+    ensures { λ r. ⌜ Gathers (now (path .entry)) (r .listed) (r .text) (now (entities .entry)) (now (entities .exit)) ⌝ }
+{
+    if words::is(path, b"all") {
+        let count = everyone(entities);
+        return without_text(Listed::Entities(count, Basis::Everyone));
     }
-    let opened = Source::open(&path[..length]);
-    let Opened::At(source) = opened else {
-        return Listed::Failed;
+    let opened = Source::open(path);
+    let Readable::At(source) = opened else {
+        return without_text(Listed::Failed);
     };
     let mut buffer = io::large_buffer();
-    let piece = read_all(source, &path[..length], &mut buffer);
-    listed_by(piece, entities)
+    let piece = read_all(source, path, &mut buffer);
+    let listed = listed_by(piece, entities);
+    let text = piece.text;
+    Roll { listed, text }
 }

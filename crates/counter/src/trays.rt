@@ -1,32 +1,35 @@
-// A tray longer than any file can be built from: it is looked at piece by piece, and the answer is that of building.
-ghost use Rattle.counter.specs.Looking.{LookedOn, LookedThrough, Looks};
+// A tray to build from: whole in a buffer; or longer than any file can be built from, looked at piece by piece, with the answer that building gives.
+ghost use Rattle.counter.specs.Looking.{LookedOn, LongSoFar, LookedThrough, Told, Takes};
 use crate::held;
-use crate::held::Held;
+use crate::held::Size;
 use files::taking::Filled;
+use files::taking::Readable;
 use files::taking::Source;
 use paper::answer::Answer;
 use tray::pieces::Known;
-use tray::pieces::Pieces;
+use tray::pieces::Look;
 
-// What was found in a tray, and its source after the last piece; or looking at it failed, and that was said.
-pub(crate) enum Looked {
-    Found(Answer, Source),
+// So many bytes are all of it; or it is longer, with its answer and all that was looked at. Each with its source after the last piece. Or it could not be
+// read, and that was said.
+pub(crate) enum Took {
+    Whole(usize, Source),
+    Long(Answer, Source, Look),
     Failed,
 }
 
-// A further piece: the source after it, how many bytes, and what is known with them; or reading failed, and that was said.
+// A piece: the source after it, how many bytes, and what is known with them; or reading failed, and that was said.
 enum Piece {
-    Read(Source, usize, Pieces),
+    Read(Source, usize, Look),
     Failed,
 }
 
-// Where looking has come to: the last piece, as above; or reading failed.
+// Where looking has come to: the end; or reading failed.
 enum Reached {
-    End(Source, usize, Pieces),
+    End(Source, Look),
     Failed,
 }
 
-fn look_on(seen: Pieces, source: Source, path: &[u8], buffer: &mut [u8]) -> Piece
+fn look_on(seen: Look, source: Source, path: &[u8], buffer: &mut [u8]) -> Piece
     ensures { λ r. ⌜ LookedOn seen source (now (buffer .exit)) r ⌝ }
 {
     let filled = source.fill(path, buffer);
@@ -37,43 +40,59 @@ fn look_on(seen: Pieces, source: Source, path: &[u8], buffer: &mut [u8]) -> Piec
 }
 
 // To the last piece. Each full one is counted, so the loop ends by what the source may hand over.
-fn look_through(
-    first: &[u8; Held::INPUT],
-    source: Source,
-    path: &[u8],
-    buffer: &mut [u8; Held::INPUT],
-) -> Reached
-    ensures { λ r. ⌜ LookedThrough (now (first .entry)) source (now (buffer .exit)) r ⌝ }
+fn look_through(begun: Look, source: Source, path: &[u8], buffer: &mut [u8; Size::INPUT]) -> Reached
+    requires { ⌜ LongSoFar source begun ⌝ }
+    ensures { λ r. ⌜ LookedThrough r ⌝ }
 {
-    let mut seen = Pieces::begun().read(first);
+    let mut seen = begun;
     let mut before = source;
     loop {
         let piece = look_on(seen, before, path, buffer);
-        let Piece::Read(after, n, known) = piece else {
+        let Piece::Read(after, _, known) = piece else {
             return Reached::Failed;
         };
         if after.has_ended() {
-            return Reached::End(after, n, known);
+            return Reached::End(after, known);
         }
         before = after;
         seen = known;
     }
 }
 
-// The first piece was read, and fills its buffer.
-pub(crate) fn look(source: Source, path: &[u8], header: &[u8], first: &[u8; Held::INPUT]) -> Looked
-    ensures { λ r. ⌜ Looks (now (header .entry)) (now (first .entry)) source r ⌝ }
+fn answered(begun: Look, source: Source, path: &[u8], header: &[u8]) -> Took
+    requires { ⌜ LongSoFar source begun ⌝ }
+    ensures { λ r. ⌜ Told (now (header .entry)) r ⌝ }
 {
     let mut buffer = held::input();
-    let reached = look_through(first, source, path, &mut buffer);
-    let Reached::End(after, _, seen) = reached else {
-        return Looked::Failed;
+    let reached = look_through(begun, source, path, &mut buffer);
+    let Reached::End(after, seen) = reached else {
+        return Took::Failed;
     };
     after.close();
     let known = seen.answer(header);
     // no source hands over more records than are looked at
-    let Known::Answered(answer) = known else {
-        return Looked::Failed;
+    let Known::Finite(answer) = known else {
+        return Took::Failed;
     };
-    Looked::Found(answer, after)
+    Took::Long(answer, after, seen)
+}
+
+// The tray under that name, its first piece into the buffer.
+pub(crate) fn take(path: &[u8], header: &[u8], input: &mut [u8; Size::INPUT]) -> Took
+    ensures { λ r. ⌜ Takes (now (header .entry)) (now (input .exit)) r ⌝ }
+{
+    let opened = Source::open(path);
+    let Readable::At(source) = opened else {
+        return Took::Failed;
+    };
+    let begun = Look::begun(source.watch());
+    let piece = look_on(begun, source, path, input);
+    let Piece::Read(after, n, known) = piece else {
+        return Took::Failed;
+    };
+    if after.has_ended() {
+        after.close();
+        return Took::Whole(n, after);
+    }
+    answered(known, after, path, header)
 }

@@ -19,11 +19,11 @@ use Rattle.paper.proofs.Totals.{sums-touched}
 use Rattle.desk.specs.declared.Session.{Session}
 use Rattle.desk.specs.declared.Reply.{Reply}
 use Rattle.desk.specs.Standing.{standing}
-use Rattle.desk.specs.Calls.{Opens, Came, opened, presented, Reachable}
+use Rattle.desk.specs.Calls.{Opens, Came, by-opening, by-presenting, Reachable}
 
 pub in-paper : {s : Session} {files : List (List ℕ)} → Came s files → calls.Arose (standing s) files
-in-paper (opened date currency entities r h) = subst (λ (x : paper.Reply). calls.Arose (x .session) []) (sym h) (calls.opened date currency entities)
-in-paper (presented {s} {files} c file r h) =
+in-paper (by-opening date currency entities r h) = subst (λ (x : paper.Reply). calls.Arose (x .session) []) (sym h) (calls.opened date currency entities)
+in-paper (by-presenting {s} {files} c file r h) =
     subst (λ (x : paper.Reply). calls.Arose (x .session) (withAccepted (x .answer) files file)) (sym h) (calls.presented (in-paper c) file)
 
 -- from the one premise: no figure of a cell, nor of a sum over cells, comes near 64 bits

@@ -16,7 +16,7 @@ use Rattle.paper.specs.Buffers.{Outcome, told, trayAnswer, buildable, building}
 use Rattle.paper.proofs.Refusals.{and-then-assoc}
 use Rattle.paper.proofs.Lent.{building-stays}
 use Rattle.tray.specs.declared.pieces.Pieces.{Pieces}
-use Rattle.tray.specs.declared.pieces.Known.the-variants.{Answered, Endless}
+use Rattle.tray.specs.declared.pieces.Known.the-variants.{Finite, Endless}
 use Rattle.tray.specs.Seen.{mostSeen, Seen, Tells}
 use Rattle.tray.proofs.Places.{sound-of}
 use Rattle.build.proofs.Sizes.{build-length}
@@ -48,7 +48,7 @@ module _ (s : Session) (header tray before : List ℕ) (long : 960000 < length t
 
   -- told by what is known after its pieces, the answer is that of building from the whole, whatever the session and the buffer
   -- (not so with a look that takes a tray without end for one that has ended)
-  pub long-seen : (p : Pieces) → Seen p tray → (a : Answer) → Tells p header (Answered a) → said a ≡ building (rulesOf s) header tray before .answer
+  pub long-seen : (p : Pieces) → Seen p tray → (a : Answer) → Tells p header (Finite a) → said a ≡ building (rulesOf s) header tray before .answer
   long-seen p seen a e =
       let w = seen .whole (e .0) in
       e .1

@@ -22,7 +22,7 @@ use Rattle.paper.specs.Sessions.{newSession, openingAnswer, openedWith, opening
 use Rattle.desk.specs.declared.Session.{Session}
 use Rattle.desk.specs.declared.Reply.{Reply}
 use Rattle.desk.specs.Standing.{standing, heard, keyed, keyIf}
-use Rattle.desk.specs.Calls.{opened, presented, Reachable}
+use Rattle.desk.specs.Calls.{by-opening, by-presenting, Reachable}
 use Rattle.desk.proofs.Keys.{key-accepted}
 
 abbrev pub reply : Said → paper.Session → paper.Reply
@@ -45,7 +45,7 @@ module _ (date : ℕ) (currency : Currency) (entities : List ℕ) where
   opens d e = rw (d, e)
 
   pub opened-so : (r : Reply) → heard r ≡ opening date currency entities → (heard r ≡ opening date currency entities) × Reachable (r .session)
-  opened-so r h = (h, record { files = []; came = opened date currency entities r h })
+  opened-so r h = (h, record { files = []; came = by-opening date currency entities r h })
 
 -- ---- presenting
 
@@ -84,4 +84,4 @@ module _ (s : paper.Session) (file : List ℕ) where
 
 pub presented-so : (s : Session) (file : List ℕ) → Reachable s → (r : Reply) → heard r ≡ presenting (standing s) file
     → (heard r ≡ presenting (standing s) file) × Reachable (r .session)
-presented-so s file c r h = (h, record { files = _; came = presented (c .came) file r h })
+presented-so s file c r h = (h, record { files = _; came = by-presenting (c .came) file r h })

@@ -34,8 +34,8 @@ HoldsAll s cells = cells ≡ s .cells
 
 -- a session that calls of the desk handed back, and the files accepted when presented, in order
 pub data Came : Session → List (List ℕ) → Type 0 where
-  opened : (date : ℕ) (currency : Currency) (entities : List ℕ) (r : Reply) → Opens date currency entities r → Came (r .session) []
-  presented : {s : Session} {files : List (List ℕ)} → Came s files → (file : List ℕ) (r : Reply) → Presents s file r
+  by-opening : (date : ℕ) (currency : Currency) (entities : List ℕ) (r : Reply) → Opens date currency entities r → Came (r .session) []
+  by-presenting : {s : Session} {files : List (List ℕ)} → Came s files → (file : List ℕ) (r : Reply) → Presents s file r
       → Came (r .session) (withAccepted (said (r .answer)) files file)
 
 -- the one premise that a promise names

@@ -94,7 +94,7 @@ impl Session {
     // Entity numbers are below this.
     pub const ROSTER: usize = Rules::ROSTER;
     // The highest entity number.
-    pub const LAST: u64 = Session::ROSTER as u64 - 1;
+    pub const LAST: u64 = Currency::LAST;
     // 000101
     pub const FIRST_DATE: u64 = 101;
 

@@ -11,9 +11,9 @@ spokenOf records accepted = record { number = 0; place = records }
 spokenOf records (refused n place) = record { number = n; place = place }
 
 -- of a job that writes: the answer with the bytes written in place of the records, and the buffer
-pub record Filled : Type 0 where
+pub record Delivered : Type 0 where
   pub spoken : Spoken
   pub buffer : List ℕ
 
-unfoldable pub filledOf : Outcome → Filled
-filledOf o = record { spoken = spokenOf (o .size) (o .answer); buffer = o .buffer }
+unfoldable pub deliveredOf : Outcome → Delivered
+deliveredOf o = record { spoken = spokenOf (o .size) (o .answer); buffer = o .buffer }

@@ -3,7 +3,7 @@ ghost use mathlib.Core.Path.{_≡_};
 ghost use Rattle.paper.specs.Listing.{currencyIf};
 ghost use Rattle.paper.specs.Sessions.{opening};
 ghost use Rattle.paper.specs.Buffers.{extracting};
-ghost use Rattle.export.specs.Spoken.{filledOf};
+ghost use Rattle.export.specs.Spoken.{deliveredOf};
 use crate::Spoken;
 use crate::currency;
 use crate::speak_output;
@@ -19,7 +19,7 @@ pub extern "C" fn shaydhoqel_extract(
     file: &[u8],
     out: &mut [u8],
 ) -> Spoken
-    ensures { λ r. ⌜ filledOf (extracting (opening date (currencyIf dollars) (now (entities .entry)) .session .rules) entity (now (file .entry)) (now (out .entry)))
+    ensures { λ r. ⌜ deliveredOf (extracting (opening date (currencyIf dollars) (now (entities .entry)) .session .rules) entity (now (file .entry)) (now (out .entry)))
         ≡ record { spoken = r; buffer = now (out .exit) } ⌝ }
 {
     let opened = Session::open(date, currency(dollars), entities);

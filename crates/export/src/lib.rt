@@ -8,7 +8,7 @@ ghost use Rattle.paper.specs.Reading.{reading};
 ghost use Rattle.paper.specs.Buffers.{told};
 ghost use Rattle.paper.specs.Listing.{currencyIf, positionsOf};
 ghost use Rattle.listing.specs.Room.{Written};
-ghost use Rattle.export.specs.Spoken.{spokenOf, filledOf};
+ghost use Rattle.export.specs.Spoken.{spokenOf, deliveredOf};
 use desk::Session;
 use listing::Listing;
 use paper::answer::Answer;
@@ -78,7 +78,7 @@ fn speak(records: usize, answer: Answer) -> Spoken
 
 // 0 and the bytes written, or the refusal number and its place.
 fn speak_output(output: Output) -> Spoken
-    ensures { λ r. ⌜ ((buffer : List ℕ) → filledOf (told output buffer) ≡ record { spoken = r; buffer = buffer }) ⌝ }
+    ensures { λ r. ⌜ ((buffer : List ℕ) → deliveredOf (told output buffer) ≡ record { spoken = r; buffer = buffer }) ⌝ }
 {
     match output {
         Output::Accepted(bytes) => speak(bytes, Answer::Accepted),

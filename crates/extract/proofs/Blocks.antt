@@ -8,12 +8,12 @@ use lib.ListN.{length}
 use Rattle.paper.specs.declared.record.Kind.the-variants.{FileHeader, BatchHeader}
 use Rattle.paper.specs.Kinds.{kindOf}
 use Rattle.paper.specs.Controls.{zeros}
-use Rattle.paper.specs.Reading.{Counts, nothingCounted, counted}
+use Rattle.paper.specs.Reading.{Reckoning, nothingCounted, counted}
 use Rattle.paper.specs.Writing.{joined, numbered, fileControlOf, owed, settled, owedBefore, settledBefore, ending, withControls, closing}
 use Rattle.paper.specs.Extract.{Item, Batch, itemRecords, batchRecords}
 use Rattle.paper.proofs.Lists.{kind-numbered}
 use Rattle.paper.proofs.Grouping.{AdditionalsGood, ItemsGood, BatchesGood}
-use Rattle.batches.specs.Blocks.{opens, ownOf, block}
+use Rattle.batches.specs.Blocks.{opensBatch, ownOf, block}
 use Rattle.batches.proofs.Own.{Within, own-within}
 use Rattle.batches.proofs.Blocks.{past, controls-past, settled-batches}
 use Rattle.extract.specs.Blocks.{blocksFrom, flat}
@@ -32,7 +32,7 @@ items-within (i ∷ is) g = (inl (g .0), additionals-within (i .additionals) (it
 -- ---- a batch's own records
 
 headers-end : (bs : List Batch) → BatchesGood bs → ownOf (flat bs) ≡ []
-unfolding ownOf flat opens
+unfolding ownOf flat opensBatch
 headers-end [] g = refl
 headers-end (b ∷ bs) g = rw (g .0 .0) refl
 
@@ -41,15 +41,15 @@ own-of is bs g h = own-within (itemRecords is) (flat bs) (items-within is g) (he
 
 -- ---- controls
 
-controls-blocks : (bs : List Batch) (n : ℕ) (c : Counts) → c .batches ≡ n → BatchesGood bs
+controls-blocks : (bs : List Batch) (n : ℕ) (c : Reckoning) → c .batches ≡ n → BatchesGood bs
     → withControls c (batchRecords n bs)
     ≡ owed (c .batches) c ++ blocksFrom (settled (c .batches) c .place) n (settled (c .batches) c .closed) bs
 unfolding withControls ending owedBefore settledBefore batchRecords blocksFrom block owed settled counted
 controls-blocks [] n c e g =
-    let d : Counts = settled (c .batches) c in
+    let d : Reckoning = settled (c .batches) c in
     ap (λ (m : ℕ). owed (c .batches) c ++ fileControlOf (d .place + 1) m (d .closed) ∷ []) (settled-batches (c .batches) c ∙ e)
 controls-blocks (b ∷ bs) n c e g =
-    let d : Counts = settled (c .batches) c in
+    let d : Reckoning = settled (c .batches) c in
     let r : List ℕ = numbered (suc n) (b .header) in
     let own : List (List ℕ) = itemRecords (b .items) in
     let k : kindOf r ≡ BatchHeader = kind-numbered (suc n) (b .header) (omega (arith, g .0 .1)) ∙ g .0 .0 in

@@ -6,9 +6,9 @@ use native.Mathlib.Omega.{arith}
 use lib.ListN.{length, take, drop, getD, length-take, length-drop}
 use lib.Seq.{take-take, drop-cons}
 use Rattle.paper.specs.Fields.{field}
-use Rattle.field.specs.Part.{Inside}
+use Rattle.field.specs.Part.{HasField}
 
-module _ (r : List ℕ) (first last : ℕ) (h : Inside r first last) where
+module _ (r : List ℕ) (first last : ℕ) (h : HasField r first last) where
   pub part-is : take (last - (first - 1)) (drop (first - 1) r) ≡ field r first last
   part-is = let e : last - (first - 1) ≡ last + 1 - first = omega arith in rw e
 
@@ -16,7 +16,7 @@ module _ (r : List ℕ) (first last : ℕ) (h : Inside r first last) where
   part-length = simp (length-take, length-drop) (omega arith)
 
 -- a field of one position
-pub one-position : (r : List ℕ) (at : ℕ) → Inside r at at → field r at at ≡ getD r (at - 1) 0 ∷ []
+pub one-position : (r : List ℕ) (at : ℕ) → HasField r at at → field r at at ≡ getD r (at - 1) 0 ∷ []
 one-position r at h =
     let e : at + 1 - at ≡ 1 = omega arith in
     let k : at - 1 < length r = omega arith in

@@ -4,5 +4,5 @@ use mathlib.Core.List.{List}
 use lib.ListN.{length}
 
 -- positions first to last are some, and the record has them
-abbrev pub Inside : List ℕ → ℕ → ℕ → Type 0
-Inside r first last = (1 ≤ first) × (first ≤ last) × (last ≤ length r)
+abbrev pub HasField : List ℕ → ℕ → ℕ → Type 0
+HasField r first last = (1 ≤ first) × (first ≤ last) × (last ≤ length r)

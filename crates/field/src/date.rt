@@ -3,7 +3,7 @@ ghost use mathlib.Core.Path.{_≡_};
 ghost use Prim.Native.Nat.{_+_};
 ghost use Rattle.paper.specs.Fields.{field};
 ghost use Rattle.paper.specs.Dates.{monthDays, isDate, dateField, timeField};
-ghost use Rattle.field.specs.Part.{Inside};
+ghost use Rattle.field.specs.Part.{HasField};
 use crate::number;
 use crate::text;
 
@@ -39,7 +39,7 @@ pub fn is_date(n: u64) -> bool
 
 // A field that is no number counts as 0, which is no date.
 pub fn date(rec: &[u8], first: usize, last: usize) -> bool
-    requires { ⌜ Inside (now rec) first last ⌝ }
+    requires { ⌜ HasField (now rec) first last ⌝ }
     requires { ⌜ last ≡ first + 5 ⌝ }
     ensures { λ r. ⌜ r ≡ dateField (field (now (rec .entry)) first last) ⌝ }
 {
@@ -47,7 +47,7 @@ pub fn date(rec: &[u8], first: usize, last: usize) -> bool
 }
 
 pub fn time(rec: &[u8], first: usize, last: usize) -> bool
-    requires { ⌜ Inside (now rec) first last ⌝ }
+    requires { ⌜ HasField (now rec) first last ⌝ }
     requires { ⌜ last ≡ first + 3 ⌝ }
     ensures { λ r. ⌜ r ≡ timeField (field (now (rec .entry)) first last) ⌝ }
 {

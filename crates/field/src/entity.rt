@@ -3,13 +3,13 @@ ghost use mathlib.Core.Path.{_≡_};
 ghost use Prim.Native.Nat.{_+_, _<_};
 ghost use Rattle.paper.specs.Fields.{field};
 ghost use Rattle.paper.specs.Entities.{entityValue, ofCurrency, entityField, entity, onRoster};
-ghost use Rattle.field.specs.Part.{Inside};
+ghost use Rattle.field.specs.Part.{HasField};
 use crate::number;
 use paper::rules::Currency;
 use paper::rules::Rules;
 
 fn entity_value(rec: &[u8], first: usize, last: usize) -> u64
-    requires { ⌜ Inside (now rec) first last ⌝ }
+    requires { ⌜ HasField (now rec) first last ⌝ }
     requires { ⌜ last ≡ first + 7 ⌝ }
     ensures { λ r. ⌜ r ≡ entityValue (field (now (rec .entry)) first last) ⌝ }
 {
@@ -17,19 +17,19 @@ fn entity_value(rec: &[u8], first: usize, last: usize) -> u64
 }
 
 pub fn of_currency(currency: Currency, rec: &[u8], first: usize, last: usize) -> bool
-    requires { ⌜ Inside (now rec) first last ⌝ }
+    requires { ⌜ HasField (now rec) first last ⌝ }
     requires { ⌜ last ≡ first + 7 ⌝ }
     ensures { λ r. ⌜ r ≡ ofCurrency currency (field (now (rec .entry)) first last) ⌝ }
 {
     let n = entity_value(rec, first, last);
     match currency {
-        Currency::Pesos => number::within(1, 499, n),
-        Currency::Dollars => number::within(501, 999, n),
+        Currency::Pesos => number::within(1, Currency::LAST, n),
+        Currency::Dollars => number::within(Currency::DOLLARS_FIRST, Currency::DOLLARS_LAST, n),
     }
 }
 
 pub fn entity_field(rec: &[u8], first: usize, last: usize) -> bool
-    requires { ⌜ Inside (now rec) first last ⌝ }
+    requires { ⌜ HasField (now rec) first last ⌝ }
     requires { ⌜ last ≡ first + 7 ⌝ }
     ensures { λ r. ⌜ r ≡ entityField (field (now (rec .entry)) first last) ⌝ }
 {
@@ -40,7 +40,7 @@ pub fn entity_field(rec: &[u8], first: usize, last: usize) -> bool
 
 // Dollars add 500 to the entity's number.
 pub fn entity(rec: &[u8], first: usize, last: usize) -> u64
-    requires { ⌜ Inside (now rec) first last ⌝ }
+    requires { ⌜ HasField (now rec) first last ⌝ }
     requires { ⌜ last ≡ first + 7 ⌝ }
     ensures { λ r. ⌜ (r ≡ entity (field (now (rec .entry)) first last)) × (r < 500) ⌝ }
 {
@@ -48,7 +48,7 @@ pub fn entity(rec: &[u8], first: usize, last: usize) -> u64
 }
 
 pub fn on_roster(roster: &[bool; Rules::ROSTER], rec: &[u8], first: usize, last: usize) -> bool
-    requires { ⌜ Inside (now rec) first last ⌝ }
+    requires { ⌜ HasField (now rec) first last ⌝ }
     requires { ⌜ last ≡ first + 7 ⌝ }
     ensures { λ r. ⌜ r ≡ onRoster (now (roster .entry)) (field (now (rec .entry)) first last) ⌝ }
 {

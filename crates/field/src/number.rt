@@ -4,7 +4,7 @@ ghost use Prim.Native.Nat.{_+_, _-_, _^_, _≤_, _<_};
 ghost use lib.Dec.{T};
 ghost use lib.ListN.{length};
 ghost use Rattle.paper.specs.Fields.{field, within, digits, value, number, spells};
-ghost use Rattle.field.specs.Part.{Inside};
+ghost use Rattle.field.specs.Part.{HasField};
 use crate::byte;
 use crate::text;
 
@@ -42,7 +42,7 @@ fn low_value(s: &[u8]) -> u64
 }
 
 pub fn digits(rec: &[u8], first: usize, last: usize) -> bool
-    requires { ⌜ Inside (now rec) first last ⌝ }
+    requires { ⌜ HasField (now rec) first last ⌝ }
     ensures { λ r. ⌜ r ≡ digits (field (now (rec .entry)) first last) ⌝ }
 {
     all_digits(text::part(rec, first, last))
@@ -50,7 +50,7 @@ pub fn digits(rec: &[u8], first: usize, last: usize) -> bool
 
 // Nothing where the field is not all digits. Eighteen digits always fit.
 pub fn number(rec: &[u8], first: usize, last: usize) -> u64
-    requires { ⌜ Inside (now rec) first last ⌝ }
+    requires { ⌜ HasField (now rec) first last ⌝ }
     requires { ⌜ last ≤ first + 17 ⌝ }
     ensures { λ r. ⌜ (r ≡ number (field (now (rec .entry)) first last)) × (r < 10 ^ (last + 1 - first)) ⌝ }
 {
@@ -63,7 +63,7 @@ pub fn number(rec: &[u8], first: usize, last: usize) -> u64
 }
 
 pub fn spells(rec: &[u8], first: usize, last: usize, n: u64) -> bool
-    requires { ⌜ Inside (now rec) first last ⌝ }
+    requires { ⌜ HasField (now rec) first last ⌝ }
     requires { ⌜ last ≤ first + 17 ⌝ }
     ensures { λ r. ⌜ r ≡ spells (field (now (rec .entry)) first last) n ⌝ }
 {

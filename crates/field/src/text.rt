@@ -3,12 +3,12 @@ ghost use mathlib.Core.Path.{_≡_};
 ghost use Prim.Native.Nat.{_+_, _-_};
 ghost use lib.ListN.{length};
 ghost use Rattle.paper.specs.Fields.{field, every, good, blank, identifierField, same};
-ghost use Rattle.field.specs.Part.{Inside};
+ghost use Rattle.field.specs.Part.{HasField};
 use crate::byte;
 
 // Positions first to last of a record, both of them included.
 pub fn part(rec: &[u8], first: usize, last: usize) -> &[u8]
-    requires { ⌜ Inside (now rec) first last ⌝ }
+    requires { ⌜ HasField (now rec) first last ⌝ }
     ensures { λ r. ⌜ (now r ≡ field (now (rec .entry)) first last) × (length (now r) ≡ last + 1 - first) ⌝ }
 {
     let start = first - 1;
@@ -43,7 +43,7 @@ fn all_blank(s: &[u8]) -> bool
 }
 
 pub fn blank(rec: &[u8], first: usize, last: usize) -> bool
-    requires { ⌜ Inside (now rec) first last ⌝ }
+    requires { ⌜ HasField (now rec) first last ⌝ }
     ensures { λ r. ⌜ r ≡ blank (field (now (rec .entry)) first last) ⌝ }
 {
     all_blank(part(rec, first, last))
@@ -67,8 +67,8 @@ fn equal(a: &[u8], b: &[u8]) -> bool
 
 // Whether two fields, of one record or of two, are the same.
 pub fn same(rec: &[u8], first: usize, last: usize, other: &[u8], from: usize, to: usize) -> bool
-    requires { ⌜ Inside (now rec) first last ⌝ }
-    requires { ⌜ Inside (now other) from to ⌝ }
+    requires { ⌜ HasField (now rec) first last ⌝ }
+    requires { ⌜ HasField (now other) from to ⌝ }
     ensures { λ r. ⌜ r ≡ same (field (now (rec .entry)) first last) (field (now (other .entry)) from to) ⌝ }
 {
     equal(part(rec, first, last), part(other, from, to))
@@ -76,7 +76,7 @@ pub fn same(rec: &[u8], first: usize, last: usize, other: &[u8], from: usize, to
 
 // Whether a field is this fixed text.
 pub fn reads(rec: &[u8], first: usize, last: usize, text: &[u8]) -> bool
-    requires { ⌜ Inside (now rec) first last ⌝ }
+    requires { ⌜ HasField (now rec) first last ⌝ }
     ensures { λ r. ⌜ r ≡ same (field (now (rec .entry)) first last) (now (text .entry)) ⌝ }
 {
     equal(part(rec, first, last), text)
@@ -84,7 +84,7 @@ pub fn reads(rec: &[u8], first: usize, last: usize, text: &[u8]) -> bool
 
 // A digit or a capital at one position.
 pub fn identifier(rec: &[u8], at: usize) -> bool
-    requires { ⌜ Inside (now rec) at at ⌝ }
+    requires { ⌜ HasField (now rec) at at ⌝ }
     ensures { λ r. ⌜ r ≡ identifierField (field (now (rec .entry)) at at) ⌝ }
 {
     let b = rec[at - 1];

@@ -5,17 +5,23 @@ use mathlib.Core.List.{List}
 use mathlib.Core.Path.{_≡_}
 use lib.Dec.{T, ltb}
 use lib.IntN.{ℤ}
-use lib.ListN.{length}
+use lib.ListN.{length, take}
 use lib.Signed.{nonNeg}
+use Rattle.watch.specs.declared.Watch.{Watch}
+use Rattle.watch.specs.Watches.{placeOf, watchAt, watchOn}
 use Rattle.files.specs.declared.taking.Source.{Source}
-use Rattle.files.specs.declared.taking.Opened.{Opened}
-use Rattle.files.specs.declared.taking.Opened.the-variants as opened
+use Rattle.files.specs.declared.taking.Readable.{Readable}
+use Rattle.files.specs.declared.taking.Readable.the-variants as opened
 use Rattle.files.specs.declared.taking.Filled.{Filled}
 use Rattle.files.specs.declared.taking.Filled.the-variants as filled
 
 -- the bytes that it has handed over so far
 abbrev pub handedBy : Source → ℕ
-handedBy source = source .handed
+handedBy source = source .total
+
+-- what watches them
+abbrev pub watchOf : Source → Watch
+watchOf source = source .watch
 
 -- its last filling met the end
 abbrev pub hasEnded : Source → Bool
@@ -28,28 +34,40 @@ descriptorOf source = source .fd
 abbrev pub mostHanded : ℕ
 mostHanded = 2 ^ 63
 
+-- nothing has been handed over; which place is watched is not said
 pub record JustOpened (source : Source) : Type 0 where
   pub descriptor : T (nonNeg (descriptorOf source))
-  pub handed : handedBy source ≡ 0
+  pub total : handedBy source ≡ 0
+  pub watch : watchOf source ≡ watchAt (placeOf (watchOf source))
   pub ended : hasEnded source ≡ false
 
-abbrev pub AsOpened : Opened → Type 0
+abbrev pub AsOpened : Readable → Type 0
 AsOpened (opened.At source) = JustOpened source
 AsOpened opened.Failed = Unit {0}
 
--- so many bytes were handed over into so much room: they are counted, and the end was met where they do not fill it
-pub record ReadFurther (before : Source) (n room : ℕ) (after : Source) : Type 0 where
-  pub left : handedBy before < mostHanded
-  pub within : n ≤ room
-  pub handed : handedBy after ≡ handedBy before + n
-  pub ended : hasEnded after ≡ ltb n room
-  pub same : descriptorOf after ≡ descriptorOf before
+-- so many bytes were handed over into the buffer: they are counted and watched, and the end was met where they do not fill it
+pub record ReadFurther (before : Source) (n : ℕ) (buffer : List ℕ) (after : Source) : Type 0 where
+  pub left : handedBy before + length buffer < mostHanded
+  pub fits : n ≤ length buffer
+  pub total : handedBy after ≡ handedBy before + n
+  pub watch : watchOf after ≡ watchOn (watchOf before) (take n buffer)
+  pub ended : hasEnded after ≡ ltb n (length buffer)
+  pub descriptor : descriptorOf after ≡ descriptorOf before
 
-abbrev pub AsFilled : Source → ℕ → Filled → Type 0
-AsFilled before room (filled.Bytes after n) = ReadFurther before n room after
-AsFilled before room filled.Failed = Unit {0}
+abbrev pub AsFilled : Source → List ℕ → Filled → Type 0
+AsFilled before buffer (filled.Bytes after n) = ReadFurther before n buffer after
+AsFilled before buffer filled.Failed = Unit {0}
 
--- all that was handed over between the two is a text of this length
-pub record HandedOver (before after : Source) (text : List ℕ) : Type 0 where
-  pub handed : handedBy after ≡ handedBy before + length text
-  pub same : descriptorOf after ≡ descriptorOf before
+-- a text that has, at the place watched, what was handed over since the source was opened; whichever place that is
+abbrev pub HandedOver : Source → List ℕ → Type 0
+HandedOver source text = watchOf source ≡ watchOn (watchAt (placeOf (watchOf source))) text
+
+-- a file that is read at once: these bytes of the buffer are what was handed over since it was opened
+pub record FileRead (buffer : List ℕ) (source : Source) (n : ℕ) : Type 0 where
+  pub fits : n ≤ length buffer
+  pub given : HandedOver source (take n buffer)
+  pub ended : hasEnded source ≡ ltb n (length buffer)
+
+abbrev pub AsFile : List ℕ → Filled → Type 0
+AsFile buffer (filled.Bytes source n) = FileRead buffer source n
+AsFile buffer filled.Failed = Unit {0}

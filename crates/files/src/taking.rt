@@ -1,28 +1,34 @@
 // Files read into lent buffers.
 ghost use mathlib.Core.Path.{_≡_};
+ghost use Prim.Native.Nat.{_+_, _-_, _≤_, _<_};
 ghost use lib.ListN.{length};
 ghost use Rattle.io.specs.Counts.{Counts};
 ghost use Rattle.files.specs.Counted.{Counted};
-ghost use Rattle.files.specs.Sources.{handedBy, hasEnded, AsOpened, AsFilled};
+ghost use Rattle.files.specs.Sources.{handedBy, hasEnded, watchOf, mostHanded, AsOpened, AsFilled, AsFile};
+use libc::ESPIPE;
 use libc::STDERR_FILENO;
+use watch::Watch;
 
 // How much was read; or reading failed, and that was said.
-pub enum Taken {
+enum Taken {
     Bytes(usize),
     Failed,
 }
 
-// A file that is being read. Only this room can make or change one, so that its count is what the system handed over.
+// A file that is being read. Only this room can make or change one, so that it tells what the system handed over, and which byte at a place that nobody
+// else knows.
 pub struct Source {
     fd: i32,
     // bytes handed over so far
-    handed: u64,
+    total: u64,
+    // and watched
+    watch: Watch,
     // the last filling met the end
     ended: bool,
 }
 
 // A source; or the file could not be opened, and that was said.
-pub enum Opened {
+pub enum Readable {
     At(Source),
     Failed,
 }
@@ -38,13 +44,28 @@ fn say_endless(path: &[u8]) {
     io::write_all(STDERR_FILENO, b": has no end\n");
 }
 
-// Reads until the buffer is full or the file ends.
-fn read_into(fd: i32, path: &[u8], buf: &mut [u8]) -> Taken
+// The bytes that stand at a place of the file, so that an older copy of a source is handed the same bytes again; a pipe has no places, and hands over the next.
+fn read_at(fd: i32, place: u64, buf: &mut [u8]) -> isize
+    requires { ⌜ place < mostHanded ⌝ }
+{
+    let got = libc::pread(fd, buf, place as i64);
+    if got >= 0 {
+        return got;
+    }
+    if os::errno() == ESPIPE {
+        return libc::read(fd, buf);
+    }
+    got
+}
+
+// Reads on from a place until the buffer is full or the file ends.
+fn read_into(fd: i32, from: u64, path: &[u8], buf: &mut [u8]) -> Taken
+    requires { ⌜ from + length (now buf) ≤ mostHanded ⌝ }
     ensures { λ r. ⌜ Counted r (length (now (buf .exit))) ⌝ }
 {
     let mut done: usize = 0;
     while done < buf.len() {
-        let got = libc::read(fd, &mut buf[done..]);
+        let got = read_at(fd, from + done as u64, &mut buf[done..]);
         if got < 0 {
             os::fail(path);
             return Taken::Failed;
@@ -61,44 +82,67 @@ fn read_into(fd: i32, path: &[u8], buf: &mut [u8]) -> Taken
 impl Source {
     // A source that has handed over so much is not read on: no file is so long.
     pub const MOST: u64 = 1 << 63;
+    // Any place would do: no contract says which it is.
+    const WATCHED: u64 = 0;
 
     // The file of that name, open for reading.
-    pub fn open(path: &[u8]) -> Opened
+    pub fn open(path: &[u8]) -> Readable
         ensures { λ r. ⌜ AsOpened r ⌝ }
     {
         let fd = os::open_read(path);
         if fd < 0 {
             os::fail(path);
-            return Opened::Failed;
+            return Readable::Failed;
         }
-        Opened::At(Source {
+        Readable::At(Source {
             fd,
-            handed: 0,
+            total: 0,
+            watch: Watch::at(Source::WATCHED),
             ended: false,
         })
     }
 
+    // How much more it may hand over.
+    fn left(self) -> u64
+        ensures { λ r. ⌜ r ≡ mostHanded - handedBy self ⌝ }
+    {
+        if self.total >= Source::MOST {
+            return 0;
+        }
+        Source::MOST - self.total
+    }
+
     // The next bytes, as many as the buffer takes.
     pub fn fill(self, path: &[u8], buf: &mut [u8]) -> Filled
-        ensures { λ r. ⌜ AsFilled self (length (now (buf .exit))) r ⌝ }
+        ensures { λ r. ⌜ AsFilled self (now (buf .exit)) r ⌝ }
     {
-        if self.handed >= Source::MOST {
+        if buf.len() as u64 >= self.left() {
             say_endless(path);
             self.close();
             return Filled::Failed;
         }
-        let taken = read_into(self.fd, path, buf);
+        let taken = read_into(self.fd, self.total, path, buf);
         let Taken::Bytes(n) = taken else {
             self.close();
             return Filled::Failed;
         };
-        let handed = self.handed + n as u64;
+        let before = self.watch;
+        let watch = before.on(&buf[..n]);
+        let total = self.total + n as u64;
         let after = Source {
             fd: self.fd,
-            handed,
+            total,
+            watch,
             ended: n < buf.len(),
         };
         Filled::Bytes(after, n)
+    }
+
+    // What watches the bytes that it hands over.
+    pub fn watch(self) -> Watch
+        ensures { λ r. ⌜ r ≡ watchOf self ⌝ }
+    {
+        self.watch
     }
 
     pub fn has_ended(self) -> bool
@@ -112,7 +156,7 @@ impl Source {
         ensures { λ r. ⌜ r ≡ handedBy self ⌝ }
     {
         libc::close(self.fd);
-        self.handed
+        self.total
     }
 }
 
@@ -128,22 +172,22 @@ pub fn name(word: usize, path: &mut [u8]) -> usize
 }
 
 // The file that a word of the call names, as much of it as the buffer takes.
-pub fn file(word: usize, buf: &mut [u8]) -> Taken
-    ensures { λ r. ⌜ Counted r (length (now (buf .exit))) ⌝ }
+pub fn file(word: usize, buf: &mut [u8]) -> Filled
+    ensures { λ r. ⌜ AsFile (now (buf .exit)) r ⌝ }
 {
     let mut path = io::buffer();
     let length = name(word, &mut path);
     if length == 0 {
-        return Taken::Failed;
+        return Filled::Failed;
     }
     let opened = Source::open(&path[..length]);
-    let Opened::At(source) = opened else {
-        return Taken::Failed;
+    let Readable::At(source) = opened else {
+        return Filled::Failed;
     };
     let filled = source.fill(&path[..length], buf);
     let Filled::Bytes(after, n) = filled else {
-        return Taken::Failed;
+        return Filled::Failed;
     };
     after.close();
-    Taken::Bytes(n)
+    Filled::Bytes(after, n)
 }

@@ -11,7 +11,7 @@ use lib.ListN.{length, getD, set, length-set}
 use lib.Seq.{getD-set-same, getD-set-other, ext-getD}
 use borrow.Author.Tests.{eqb-true, eqb-false}
 use Rattle.paper.specs.declared.ledger.Cell.{Cell}
-use Rattle.paper.specs.Postings.{Posting, signed, effect, position, count, sent, received}
+use Rattle.paper.specs.Postings.{Posting, signed, effect, position, howMany, sent, received}
 use Rattle.paper.specs.Sessions.{zeroCell, cellAfter, cellsAfter}
 use Rattle.paper.proofs.Sums.{position-append, count-append}
 use Rattle.paper.proofs.Figures.{length-after}
@@ -36,7 +36,7 @@ cells-append e ps qs [] = refl
 cells-append e ps qs (c ∷ cs) = ap₂ _∷_ (cell-append e ps qs c) (cells-append (e + 1) ps qs cs)
 
 pub cells-none : (e : ℕ) (cs : List Cell) → cellsAfter e [] cs ≡ cs
-unfolding cellsAfter cellAfter position count
+unfolding cellsAfter cellAfter position howMany
 cells-none e [] = refl
 cells-none e (c ∷ cs) = ap₂ _∷_ (same-cell (+ℤ-idr (c .position)) (add-zero (c .sent)) (add-zero (c .received))) (cells-none (e + 1) cs)
 
@@ -72,7 +72,7 @@ destinationSide p = side (not (p .collects)) (p .amount) 0 1
 
 sides : (e : ℕ) (p : Posting) (c : Cell)
     → cellAfter e (p ∷ []) c ≡ (let d = cond (eqb e (p .sender)) (senderSide p c) c in cond (eqb e (p .destination)) (destinationSide p d) d)
-unfolding cellAfter position effect count side
+unfolding cellAfter position effect howMany side
 sides e p c = go (eqb e (p .sender)) (eqb e (p .destination))
   where
     up : ℤ

@@ -13,7 +13,7 @@ use Rattle.paper.specs.declared.rules.Rules.{Rules}
 use Rattle.paper.specs.Answers.{accepted}
 use Rattle.paper.specs.Fields.{bytes}
 use Rattle.paper.specs.Kinds.{kindOf}
-use Rattle.paper.specs.Reading.{Counts, nothingCounted, counted, start, beforeNext, next, parts, recordsOf, reading}
+use Rattle.paper.specs.Reading.{Reckoning, nothingCounted, counted, start, beforeNext, next, parts, recordsOf, reading}
 use Rattle.paper.specs.Writing.{blanks, joined, owed, settled, withControls, closing}
 use Rattle.paper.specs.Trays.{trayRecords, batchesAfter, individualsAfter, numbering, build, zeroed, marked, stripped, strip}
 use Rattle.paper.specs.Demands.{Faultless, AsBuilt}
@@ -83,7 +83,7 @@ module _ (rules : Rules) (head : List ℕ) (rs : List (List ℕ)) (z : Sized 94 
   build-strip : build head (strip (joined (head ∷ rs))) ≡ joined (head ∷ normals 0 0 rs)
   unfolding build strip closing recordsOf trayRecords stripped start next nothingCounted counted beforeNext marked owed settled
   build-strip =
-      let c : Counts = counted FileHeader nothingCounted head in
+      let c : Reckoning = counted FileHeader nothingCounted head in
       let link : Beside (next start head .counts) c = rw k (record { place = refl; batches = refl; closed = refl }) in
       ap (λ (l : List (List ℕ)). joined (head ∷ withControls c (numbering 0 0 (map (drop 2) (parts 96 (length (joined (stripped l)) / 96) (joined (stripped l))))))) (records-joined 94 (head ∷ rs) (omega arith) z)
       ∙ ap (λ (x : Kind). joined (head ∷ withControls c (numbering 0 0 (map (drop 2) (parts 96 (length (joined (marked x head ++ stripped rs)) / 96) (joined (marked x head ++ stripped rs))))))) k

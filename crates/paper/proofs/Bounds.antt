@@ -9,7 +9,7 @@ use lib.Dec.{eqb, ltb, ltb→lt}
 use lib.IntN.{ℤ, pos, negsuc, natAbs, subℕ, _+ℤ_, negℤ}
 use lib.ListN.{length}
 use Rattle.paper.specs.declared.rules.Rules.{Rules}
-use Rattle.paper.specs.Postings.{Posting, signed, effect, position, count}
+use Rattle.paper.specs.Postings.{Posting, signed, effect, position, howMany}
 use Rattle.paper.proofs.Tests.{T-of}
 use Rattle.paper.proofs.Sums.{only, Adds, total-effect, total-position, total-count}
 use Rattle.paper.proofs.Places.{AllSound}
@@ -68,14 +68,14 @@ position-bound {total} a rules (p ∷ ps) s =
 
 -- on either side
 pub count-bound : {total : (ℕ → ℤ) → ℤ} → Adds total → (side : Posting → ℕ) (ps : List Posting)
-    → natAbs (total (λ e. pos (count (λ p. eqb e (side p)) ps))) ≤ length ps
-unfolding count
+    → natAbs (total (λ e. pos (howMany (λ p. eqb e (side p)) ps))) ≤ length ps
+unfolding howMany
 count-bound a side [] = omega (arith, ap natAbs (a .none))
 count-bound {total} a side (p ∷ ps) =
     omega (
       arith,
       ap natAbs (total-count a side p ps),
-      natAbs-plus (total (only (side p) (pos 1))) (total (λ e. pos (count (λ q. eqb e (side q)) ps))),
+      natAbs-plus (total (only (side p) (pos 1))) (total (λ e. pos (howMany (λ q. eqb e (side q)) ps))),
       a .part (side p) (pos 1),
       count-bound a side ps,
     )

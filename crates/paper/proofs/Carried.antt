@@ -10,7 +10,7 @@ use Rattle.paper.specs.declared.record.Before.the-variants.{Nothing, Bet
 use Rattle.paper.specs.declared.record.Kind.{Kind}
 use Rattle.paper.specs.Fields.{field, is}
 use Rattle.paper.specs.Kinds.{kindOf}
-use Rattle.paper.specs.Reading.{Counts, flag, beforeNext}
+use Rattle.paper.specs.Reading.{Reckoning, flag, beforeNext}
 use Rattle.paper.specs.Writing.{withControls}
 use Rattle.paper.specs.Extract.{Item, Batch, Groups, prepended, grouped, itemRecords, batchRecords}
 use Rattle.paper.specs.Demands.{itemsIn, carriedBy, carried}
@@ -51,7 +51,7 @@ carried-batches (b ∷ bs) n g =
     ∙ ap (λ (l : List (List ℕ)). itemRecords (b .items) ++ l) (carried-batches bs (suc n) (g .2))
     ∙ sym (item-records-append (b .items) (itemsIn bs)))
 
-pub carried-controls : (rs : List (List ℕ)) (c : Counts) → carried (withControls c rs) ≡ carried rs
+pub carried-controls : (rs : List (List ℕ)) (c : Reckoning) → carried (withControls c rs) ≡ carried rs
 unfolding carried carriedBy
 carried-controls = over-controls carried carriedBy (λ r rs. refl) (λ r l. refl) (λ r l. refl)
 

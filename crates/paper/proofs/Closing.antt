@@ -8,7 +8,7 @@ use Rattle.paper.specs.declared.record.Kind.{Kind}
 use Rattle.paper.specs.declared.record.Kind.the-variants.{FileHeader, BatchHeader, Individual, Additional, BatchControl, FileControl, Other}
 use Rattle.paper.specs.Kinds.{kindOf}
 use Rattle.paper.specs.declared.record.Tally.{Tally}
-use Rattle.paper.specs.Reading.{Counts, nothingCounted, counted, recordsOf}
+use Rattle.paper.specs.Reading.{Reckoning, nothingCounted, counted, recordsOf}
 use Rattle.paper.specs.Writing.{blanks, batchControlOf, fileControlOf, owed, owedBefore, settledBefore, ending, withControls, closing}
 use Rattle.paper.proofs.Lists.{Sized, sized-append, length-joined, records-joined, length-spelled}
 
@@ -25,12 +25,12 @@ pub length-fileControl : (all batches : ℕ) (t : Tally) → length (fileControl
 unfolding fileControlOf blanks
 length-fileControl all batches t = simp (length-append, length-spelled)
 
-owed-sized : (n : ℕ) (c : Counts) → Ready n (c .header) → Sized 94 (owed n c)
+owed-sized : (n : ℕ) (c : Reckoning) → Ready n (c .header) → Sized 94 (owed n c)
 unfolding owed
 owed-sized zero c h = tt
 owed-sized (suc n) c h = (length-batchControl (c .header) (c .batch) h, tt)
 
-owed-before-sized : (k : Kind) (c : Counts) → Ready (c .batches) (c .header) → Sized 94 (owedBefore k c)
+owed-before-sized : (k : Kind) (c : Reckoning) → Ready (c .batches) (c .header) → Sized 94 (owedBefore k c)
 unfolding owedBefore
 owed-before-sized FileHeader c h = tt
 owed-before-sized BatchHeader c h = owed-sized (c .batches) c h
@@ -41,10 +41,10 @@ owed-before-sized FileControl c h = tt
 owed-before-sized Other c h = tt
 
 -- the counts after a record that was written
-abbrev pub afterWriting : Kind → Counts → List ℕ → Counts
+abbrev pub afterWriting : Kind → Reckoning → List ℕ → Reckoning
 afterWriting k c r = counted k (settledBefore k c) r
 
-ready-after : (k : Kind) (c : Counts) (r : List ℕ) → length r ≡ 94 → Ready (c .batches) (c .header)
+ready-after : (k : Kind) (c : Reckoning) (r : List ℕ) → length r ≡ 94 → Ready (c .batches) (c .header)
     → Ready (afterWriting k c r .batches) (afterWriting k c r .header)
 unfolding counted settledBefore
 ready-after FileHeader c r l h = h
@@ -55,7 +55,7 @@ ready-after BatchControl c r l h = h
 ready-after FileControl c r l h = h
 ready-after Other c r l h = h
 
-pub controls-sized : (rs : List (List ℕ)) (c : Counts) → Sized 94 rs → Ready (c .batches) (c .header) → Sized 94 (withControls c rs)
+pub controls-sized : (rs : List (List ℕ)) (c : Reckoning) → Sized 94 rs → Ready (c .batches) (c .header) → Sized 94 (withControls c rs)
 unfolding withControls ending
 controls-sized [] c z h = sized-append 94 (owed (c .batches) c) _ (owed-sized (c .batches) c h) (length-fileControl _ _ _, tt)
 controls-sized (r ∷ rs) c z h =
@@ -88,12 +88,12 @@ abbrev pub owing : ℕ → ℕ
 owing zero = 0
 owing (suc n) = 1
 
-length-owed : (n : ℕ) (c : Counts) → length (owed n c) ≡ owing n
+length-owed : (n : ℕ) (c : Reckoning) → length (owed n c) ≡ owing n
 unfolding owed
 length-owed zero c = refl
 length-owed (suc n) c = refl
 
-owed-step : (k : Kind) (c : Counts) (r : List ℕ) → length (owedBefore k c) + owing (afterWriting k c r .batches) ≡ headers k + owing (c .batches)
+owed-step : (k : Kind) (c : Reckoning) (r : List ℕ) → length (owedBefore k c) + owing (afterWriting k c r .batches) ≡ headers k + owing (c .batches)
 unfolding owedBefore counted settledBefore
 owed-step FileHeader c r = refl
 owed-step BatchHeader c r = omega (arith, length-owed (c .batches) c)
@@ -103,7 +103,7 @@ owed-step BatchControl c r = refl
 owed-step FileControl c r = refl
 owed-step Other c r = refl
 
-pub length-controls : (rs : List (List ℕ)) (c : Counts) → length (withControls c rs) ≡ length rs + headersOf rs + owing (c .batches) + 1
+pub length-controls : (rs : List (List ℕ)) (c : Reckoning) → length (withControls c rs) ≡ length rs + headersOf rs + owing (c .batches) + 1
 unfolding withControls ending headersOf
 length-controls [] c = length-append (owed (c .batches) c) _ ∙ omega (arith, length-owed (c .batches) c)
 length-controls (r ∷ rs) c =

@@ -17,7 +17,7 @@ use Rattle.paper.specs.Fields.{field}
 use Rattle.paper.specs.Entities.{entityValue, entity}
 use Rattle.paper.specs.Kinds.{kindOf}
 use Rattle.paper.specs.Reading.{recordsOf}
-use Rattle.paper.specs.Postings.{Posting, posting, postedBy, senderAfter, postingsFrom, postings, position, count, sent, received}
+use Rattle.paper.specs.Postings.{Posting, posting, postedBy, senderAfter, postingsFrom, postings, position, howMany, sent, received}
 use Rattle.paper.specs.Sessions.{Session, zeroCell, newSession, openingAnswer, openedWith, opening, answerTo, cellAfter, cellsAfter, sessionAfter, presenting}
 use Rattle.paper.specs.Demands.{withAccepted, Arose, opened, presented, postingsOf, Agrees, sumTo}
 use Rattle.paper.proofs.Sums.{sumTo-same, AllWithin, within-append, positions-cancel, counts-add, position-append, count-append}
@@ -66,7 +66,7 @@ AllAgree [] e ps = Unit {0}
 AllAgree (c ∷ cs) e ps = Agrees c e ps × AllAgree cs (e + 1) ps
 
 new-agree : (n e : ℕ) → AllAgree (replicate n zeroCell) e []
-unfolding position count
+unfolding position howMany
 new-agree zero e = tt
 new-agree (suc n) e = (record { position = refl; sent = refl; received = refl }, new-agree n (e + 1))
 

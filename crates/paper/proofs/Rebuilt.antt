@@ -15,7 +15,7 @@ use Rattle.paper.specs.Fields.{field, is}
 use Rattle.paper.specs.Kinds.{kindOf}
 use Rattle.paper.specs.declared.record.Tally.{Tally}
 use Rattle.paper.specs.Controls.{plus, withIndividual, withAdditional}
-use Rattle.paper.specs.Reading.{Counts, counted, State, flag, beforeNext, next, fields}
+use Rattle.paper.specs.Reading.{Reckoning, counted, State, flag, beforeNext, next, fields}
 use Rattle.paper.specs.Writing.{numbered, batchControlOf, fileControlOf, owed, settled, owedBefore, settledBefore, ending, withControls}
 use Rattle.paper.specs.Trays.{batchesAfter, individualsAfter, numberedBy, numbering, zeroed, marked, stripped}
 use Rattle.paper.specs.Demands.{Faultless}
@@ -27,13 +27,13 @@ use Rattle.paper.proofs.Normal.{normal, normals, numbered-zeroed, withI
 -- ---- the reader's counts and the writer's, side by side
 
 -- between batches the reader has seen the control that the writer still owes
-pub record Beside (a c : Counts) : Type 0 where
+pub record Beside (a c : Reckoning) : Type 0 where
   pub place : a .place ≡ settled (c .batches) c .place
   pub batches : a .batches ≡ settled (c .batches) c .batches
   pub closed : a .closed ≡ settled (c .batches) c .closed
 
 -- inside a batch they have counted the same
-pub record Together (a c : Counts) : Type 0 where
+pub record Together (a c : Reckoning) : Type 0 where
   pub place : a .place ≡ c .place
   pub batches : a .batches ≡ c .batches
   pub batch : a .batch ≡ c .batch
@@ -42,7 +42,7 @@ pub record Together (a c : Counts) : Type 0 where
   pub header : c .header ≡ numbered (c .batches) (a .header)
   pub long : length (a .header) ≡ 94
 
-abbrev pub Link : Before → Counts → Counts → Type 0
+abbrev pub Link : Before → Reckoning → Reckoning → Type 0
 Link Nothing a c = ⊥
 Link Between a c = Beside a c
 Link Opened a c = Together a c
@@ -51,7 +51,7 @@ Link Inside a c = Together a c
 Link Ended a c = ⊥
 
 -- what the writer owes
-abbrev pub owes : Before → Counts → List (List ℕ)
+abbrev pub owes : Before → Reckoning → List (List ℕ)
 owes Nothing c = []
 owes Between c = owed (c .batches) c
 owes Opened c = []
@@ -63,15 +63,15 @@ abbrev pub bodies : List (List ℕ) → List (List ℕ)
 bodies rs = map (drop 2) (stripped rs)
 
 abbrev pub Rebuilt : Rules → List (List ℕ) → Type 0
-Rebuilt rules rs = (s : State) (c : Counts) (n : ℕ) (w : Before) → s .before ≡ w → Link w (s .counts) c → Faultless rules s rs
+Rebuilt rules rs = (s : State) (c : Reckoning) (n : ℕ) (w : Before) → s .before ≡ w → Link w (s .counts) c → Faultless rules s rs
     → withControls c (numbering (c .batches) n (bodies rs)) ≡ owes w c ++ normals (c .batches) n rs
 
-link-flag : (x : Bool) (a c : Counts) → Together a c → Link (flag x) a c
+link-flag : (x : Bool) (a c : Reckoning) → Together a c → Link (flag x) a c
 unfolding flag
 link-flag true a c i = i
 link-flag false a c i = i
 
-owes-flag : (x : Bool) (c : Counts) → owes (flag x) c ≡ []
+owes-flag : (x : Bool) (c : Reckoning) → owes (flag x) c ≡ []
 unfolding flag
 owes-flag true c = refl
 owes-flag false c = refl
@@ -81,12 +81,12 @@ unfolding zeroed kindOf
 kind-zeroed [] l = absurd (omega arith)
 kind-zeroed (x ∷ r) l = refl
 
-settled-batches : (n : ℕ) (c : Counts) → settled n c .batches ≡ c .batches
+settled-batches : (n : ℕ) (c : Reckoning) → settled n c .batches ≡ c .batches
 unfolding settled counted
 settled-batches zero c = refl
 settled-batches (suc n) c = refl
 
-module _ (rules : Rules) (r : List ℕ) (rs : List (List ℕ)) (l : length r ≡ 94) (ih : Rebuilt rules rs) (s : State) (c : Counts) (n : ℕ) where
+module _ (rules : Rules) (r : List ℕ) (rs : List (List ℕ)) (l : length r ≡ 94) (ih : Rebuilt rules rs) (s : State) (c : Reckoning) (n : ℕ) where
   -- a record of the tray is written under its number
   numbered-kind : (m : ℕ) → kindOf (numbered m r) ≡ kindOf r
   numbered-kind m = kind-numbered m r (omega arith)
@@ -96,7 +96,7 @@ module _ (rules : Rules) (r : List ℕ) (rs : List (List ℕ)) (l : length r ≡
   unfolding withControls numbering numberedBy batchesAfter individualsAfter stripped marked normals normal owedBefore settledBefore next counted beforeNext
   step5 k i h =
       let m : ℕ = suc (c .batches) in
-      let d : Counts = counted BatchHeader (settled (c .batches) c) (numbered m r) in
+      let d : Reckoning = counted BatchHeader (settled (c .batches) c) (numbered m r) in
       let q : d .batches ≡ m = ap suc (settled-batches (c .batches) c) in
       let link : Together (next s r .counts) d = rw k (record {
         place = ap (λ (x : ℕ). x + 1) (i .place);
@@ -115,7 +115,7 @@ module _ (rules : Rules) (r : List ℕ) (rs : List (List ℕ)) (l : length r ≡
       → withControls c (numbering (c .batches) n (bodies (r ∷ rs))) ≡ normals (c .batches) n (r ∷ rs)
   unfolding withControls numbering numberedBy batchesAfter individualsAfter stripped marked normals normal owedBefore settledBefore next counted beforeNext
   step6 k i h =
-      let d : Counts = counted Individual c (numbered (suc n) r) in
+      let d : Reckoning = counted Individual c (numbered (suc n) r) in
       let x : Bool = is (field r 79 79) "1" in
       let link : Together (next s r .counts) d = rw k (record {
         place = ap (λ (x : ℕ). x + 1) (i .place);
@@ -134,7 +134,7 @@ module _ (rules : Rules) (r : List ℕ) (rs : List (List ℕ)) (l : length r ≡
       → withControls c (numbering (c .batches) n (bodies (r ∷ rs))) ≡ normals (c .batches) n (r ∷ rs)
   unfolding withControls numbering numberedBy batchesAfter individualsAfter stripped marked normals normal owedBefore settledBefore next counted beforeNext
   step7 k i h =
-      let d : Counts = counted Additional c (numbered n r) in
+      let d : Reckoning = counted Additional c (numbered n r) in
       let link : Together (next s r .counts) d = rw k (record {
         place = ap (λ (x : ℕ). x + 1) (i .place);
         batches = i .batches;

@@ -11,7 +11,7 @@ use Rattle.paper.specs.declared.record.Kind.the-variants.{FileHeader, Ba
 use Rattle.paper.specs.declared.rules.Rules.{Rules}
 use Rattle.paper.specs.Answers.{accepted}
 use Rattle.paper.specs.Kinds.{kind, kindOf}
-use Rattle.paper.specs.Reading.{Counts, nothingCounted, counted, recordsOf, reading}
+use Rattle.paper.specs.Reading.{Reckoning, nothingCounted, counted, recordsOf, reading}
 use Rattle.paper.specs.Writing.{numbered, batchControlOf, fileControlOf, owed, owedBefore, ending, withControls}
 use Rattle.paper.specs.Extract.{Item, Batch, Groups, prepended, grouped, batchesOf, batchesTo, itemRecords, batchRecords, headerFor, extract}
 use Rattle.paper.proofs.Lists.{Sized, sized-append, length-spelled, length-numbered, kind-numbered}
@@ -72,12 +72,12 @@ extract-cut rules e file h =
 
 module _ {A : Type 0} (of : List (List ℕ) → A) (step : Kind → List ℕ → A → A) (each : (r : List ℕ) (rs : List (List ℕ)) → of (r ∷ rs) ≡ step (kindOf r) r (of rs))
     (closes : (r : List ℕ) (x : A) → step BatchControl r x ≡ x) (ends : (r : List ℕ) (x : A) → step FileControl r x ≡ x) where
-  over-owed : (n : ℕ) (c : Counts) (rs : List (List ℕ)) → of (owed n c ++ rs) ≡ of rs
+  over-owed : (n : ℕ) (c : Reckoning) (rs : List (List ℕ)) → of (owed n c ++ rs) ≡ of rs
   unfolding owed batchControlOf kindOf kind
   over-owed zero c rs = refl
   over-owed (suc n) c rs = each (batchControlOf (c .header) (c .batch)) rs ∙ closes _ (of rs)
 
-  over-before : (k : Kind) (c : Counts) (rs : List (List ℕ)) → of (owedBefore k c ++ rs) ≡ of rs
+  over-before : (k : Kind) (c : Reckoning) (rs : List (List ℕ)) → of (owedBefore k c ++ rs) ≡ of rs
   unfolding owedBefore
   over-before FileHeader c rs = refl
   over-before BatchHeader c rs = over-owed (c .batches) c rs
@@ -87,7 +87,7 @@ module _ {A : Type 0} (of : List (List ℕ) → A) (step : Kind → List ℕ →
   over-before FileControl c rs = refl
   over-before Other c rs = refl
 
-  pub over-controls : (rs : List (List ℕ)) (c : Counts) → of (withControls c rs) ≡ of rs
+  pub over-controls : (rs : List (List ℕ)) (c : Reckoning) → of (withControls c rs) ≡ of rs
   unfolding withControls ending fileControlOf kindOf kind
   over-controls [] c = over-owed (c .batches) c _ ∙ each _ [] ∙ ends _ (of [])
   over-controls (r ∷ rs) c =
@@ -96,7 +96,7 @@ module _ {A : Type 0} (of : List (List ℕ) → A) (step : Kind → List ℕ →
       ∙ ap (step (kindOf r) r) (over-controls rs (afterWriting (kindOf r) c r))
       ∙ sym (each r rs)
 
-grouped-controls : (rs : List (List ℕ)) (c : Counts) → grouped (withControls c rs) ≡ grouped rs
+grouped-controls : (rs : List (List ℕ)) (c : Reckoning) → grouped (withControls c rs) ≡ grouped rs
 unfolding grouped prepended
 grouped-controls = over-controls grouped prepended (λ r rs. refl) (λ r g. refl) (λ r g. refl)
 

@@ -14,7 +14,7 @@ use Rattle.paper.specs.declared.rules.Rules.{Rules}
 use Rattle.paper.specs.Answers.{accepted, require}
 use Rattle.paper.specs.Fields.{bytes, field, is}
 use Rattle.paper.specs.Kinds.{kind, kindOf}
-use Rattle.paper.specs.Reading.{Counts, nothingCounted, counted, parts, reading}
+use Rattle.paper.specs.Reading.{Reckoning, nothingCounted, counted, parts, reading}
 use Rattle.paper.specs.Writing.{joined, numbered, batchControlOf, fileControlOf, owed, owedBefore, ending, withControls, closing}
 use Rattle.paper.specs.Trays.{trayRecords, markGood, trayRecordGood, trayFault, batchesAfter, individualsAfter, numberedBy, numbering, build, zeroed, marked, stripped, strip}
 use Rattle.paper.proofs.Tests.{and-l, and-r, same→eq}
@@ -30,12 +30,12 @@ unfolding stripped
 stripped-append [] b = refl
 stripped-append (r ∷ a) b = ap (λ (l : List (List ℕ)). marked (kindOf r) r ++ l) (stripped-append a b) ∙ sym (append-assoc (marked (kindOf r) r) (stripped a) (stripped b))
 
-stripped-owed : (n : ℕ) (c : Counts) → stripped (owed n c) ≡ []
+stripped-owed : (n : ℕ) (c : Reckoning) → stripped (owed n c) ≡ []
 unfolding stripped owed batchControlOf kindOf kind marked
 stripped-owed zero c = refl
 stripped-owed (suc n) c = refl
 
-stripped-before : (k : Kind) (c : Counts) → stripped (owedBefore k c) ≡ []
+stripped-before : (k : Kind) (c : Reckoning) → stripped (owedBefore k c) ≡ []
 unfolding owedBefore stripped
 stripped-before FileHeader c = refl
 stripped-before BatchHeader c = stripped-owed (c .batches) c
@@ -45,7 +45,7 @@ stripped-before BatchControl c = refl
 stripped-before FileControl c = refl
 stripped-before Other c = refl
 
-pub stripped-controls : (rs : List (List ℕ)) (c : Counts) → stripped (withControls c rs) ≡ stripped rs
+pub stripped-controls : (rs : List (List ℕ)) (c : Reckoning) → stripped (withControls c rs) ≡ stripped rs
 unfolding withControls ending stripped fileControlOf kindOf kind marked
 stripped-controls [] c = stripped-append (owed (c .batches) c) _ ∙ ap (λ (l : List (List ℕ)). l ++ []) (stripped-owed (c .batches) c)
 stripped-controls (r ∷ rs) c =

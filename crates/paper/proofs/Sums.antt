@@ -9,7 +9,7 @@ use lib.Dec.{eqb, ltb, eqb→eq}
 use lib.IntN.{ℤ, pos, natAbs, _+ℤ_, +ℤ-assoc, +ℤ-idr, +ℤ-idl, +ℤ-comm, +ℤ-invr, +ℤ-invl}
 use lib.ListN.{length}
 use borrow.Author.Tests.{ne-eqb, eqb-false, ltb-true, ltb-false}
-use Rattle.paper.specs.Postings.{Posting, signed, effect, position, count, sent, received}
+use Rattle.paper.specs.Postings.{Posting, signed, effect, position, howMany, sent, received}
 use Rattle.paper.specs.Demands.{sumTo}
 
 -- (a + b) + (c + d) is (a + c) + (b + d)
@@ -85,11 +85,11 @@ total-position a p ps = a .plus (λ e. effect e p) (λ e. position e ps)
 
 -- and counts one on either side
 pub total-count : {total : (ℕ → ℤ) → ℤ} → Adds total → (side : Posting → ℕ) (p : Posting) (ps : List Posting)
-    → total (λ e. pos (count (λ q. eqb e (side q)) (p ∷ ps))) ≡ total (only (side p) (pos 1)) +ℤ total (λ e. pos (count (λ q. eqb e (side q)) ps))
-unfolding count only
+    → total (λ e. pos (howMany (λ q. eqb e (side q)) (p ∷ ps))) ≡ total (only (side p) (pos 1)) +ℤ total (λ e. pos (howMany (λ q. eqb e (side q)) ps))
+unfolding howMany only
 total-count {total} a side p ps =
-    ap total (λ i e. one (eqb e (side p)) (count (λ q. eqb e (side q)) ps) i)
-    ∙ a .plus (only (side p) (pos 1)) (λ e. pos (count (λ q. eqb e (side q)) ps))
+    ap total (λ i e. one (eqb e (side p)) (howMany (λ q. eqb e (side q)) ps) i)
+    ∙ a .plus (only (side p) (pos 1)) (λ e. pos (howMany (λ q. eqb e (side q)) ps))
   where
     one : (b : Bool) (n : ℕ) → pos (cond b 1 0 + n) ≡ cond b (pos 1) (pos 0) +ℤ pos n
     one true n = refl
@@ -128,8 +128,8 @@ positions-cancel (p ∷ ps) w = total-position (first-adds 500) p ps ∙ ap₂ _
 
 -- each posting counts once for one entity on either side: over all entities, sent as received
 pub counts-add : (side : Posting → ℕ) → ((p : Posting) → Within p → side p < 500) → (ps : List Posting) → AllWithin ps
-    → sumTo 500 (λ e. pos (count (λ p. eqb e (side p)) ps)) ≡ pos (length ps)
-unfolding count
+    → sumTo 500 (λ e. pos (howMany (λ p. eqb e (side p)) ps)) ≡ pos (length ps)
+unfolding howMany
 counts-add side low [] w = sumTo-zero 500
 counts-add side low (p ∷ ps) w =
     total-count (first-adds 500) side p ps
@@ -141,10 +141,10 @@ unfolding position
 position-append e [] qs = sym (+ℤ-idl (position e qs))
 position-append e (p ∷ ps) qs = ap (λ (z : ℤ). effect e p +ℤ z) (position-append e ps qs) ∙ sym (+ℤ-assoc (effect e p) (position e ps) (position e qs))
 
-pub count-append : (test : Posting → Bool) (ps qs : List Posting) → count test (ps ++ qs) ≡ count test ps + count test qs
-unfolding count
-count-append test [] qs = sym (zero-add (count test qs))
-count-append test (p ∷ ps) qs = ap (λ (n : ℕ). cond (test p) 1 0 + n) (count-append test ps qs) ∙ sym (add-assoc (cond (test p) 1 0) (count test ps) (count test qs))
+pub count-append : (test : Posting → Bool) (ps qs : List Posting) → howMany test (ps ++ qs) ≡ howMany test ps + howMany test qs
+unfolding howMany
+count-append test [] qs = sym (zero-add (howMany test qs))
+count-append test (p ∷ ps) qs = ap (λ (n : ℕ). cond (test p) 1 0 + n) (count-append test ps qs) ∙ sym (add-assoc (cond (test p) 1 0) (howMany test ps) (howMany test qs))
 
 -- ---- an entity's own figures depend on the postings that name it only
 
@@ -161,7 +161,7 @@ pub record Own (e : ℕ) (ps qs : List Posting) : Type 0 where
   pub received : received e ps ≡ received e qs
 
 pub own : (e : ℕ) (ps : List Posting) → Own e ps (postingsNaming e ps)
-unfolding postingsNaming position count namedBy effect
+unfolding postingsNaming position howMany namedBy effect
 own e [] = record { position = refl; sent = refl; received = refl }
 own e (p ∷ ps) = go (eqb e (p .sender)) (eqb e (p .destination)) refl refl (own e ps)
   where

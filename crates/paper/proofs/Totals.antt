@@ -8,7 +8,7 @@ use lib.ListN.{length, getD}
 use borrow.Author.Tests.{ne-eqb}
 use Rattle.paper.specs.declared.rules.Rules.{Rules}
 use Rattle.paper.specs.declared.ledger.Cell.{Cell}
-use Rattle.paper.specs.Postings.{Posting, position, count, sent, received}
+use Rattle.paper.specs.Postings.{Posting, position, howMany, sent, received}
 use Rattle.paper.specs.Sessions.{Session, zeroCell}
 use Rattle.paper.specs.Listing.{plusCell, cellSums}
 use Rattle.paper.specs.Demands.{Arose, postingsOf, Agrees, Touched, sumTo, sessionSides}
@@ -29,7 +29,7 @@ naming-none rules (p ∷ ps) s =
 
 -- no accepted record names entity 0
 pub cell-none : {s : Session} {files : List (List ℕ)} → Arose s files → getD (s .cells) 0 zeroCell ≡ zeroCell
-unfolding position count
+unfolding position howMany
 cell-none {s} {files} c =
     let ps : List Posting = postingsOf files in
     let a = figures c 0 (omega arith) in

@@ -8,7 +8,7 @@ use Rattle.paper.specs.Kinds.{kind, kindOf, codeOf, allowed}
 use Rattle.paper.specs.Records.{member, memberField, fileHeader, batchHeader, amountOf, accountGood, informationGood, flagGood, counterGood, transfer, individual, additional99, additional05, additionalBy, additional}
 use Rattle.paper.specs.Controls.{plus, withIndividual, withAdditional, batchControl, blocks, fileControl}
 use Rattle.paper.specs.Reading.{nothingCounted, counted, start, flag, beforeNext, lastIndividual, next, fields, judged, finish, at, readingFrom, parts, recordsOf, lengthGood, reading}
-use Rattle.paper.specs.Postings.{posting, postedBy, senderAfter, postingsFrom, postings, ownPostings, signed, effect, position, count}
+use Rattle.paper.specs.Postings.{posting, postedBy, senderAfter, postingsFrom, postings, ownPostings, signed, effect, position, howMany}
 use Rattle.paper.specs.Sessions.{listed, newSession, openingAnswer, openedWith, opening, cellOf, originOf, identifierIf, identifierOf, keyOf, answerTo, cellAfter, cellsAfter, sessionAfter, presenting}
 use Rattle.paper.specs.Writing.{spelled, blanks, joined, numbered, batchControlOf, fileControlOf, owed, settled, owedBefore, settledBefore, ending, withControls, closing}
 use Rattle.paper.specs.Listing.{widthBy, width, decimal, signedDecimal, figuresLine, entityLine, entityLines, plusCell, cellSums, listing, refusalLine, hasHeader, dateIn, currencyIn, numbersTo, printed, oneFile, positionsOf}
@@ -17,5 +17,5 @@ use Rattle.paper.specs.Trays.{trayRecords, markGood, trayRecordGood, tra
 use Rattle.paper.specs.Buffers.{over, written, roomFor, entityGiven, extracting, stripping, trayAnswer, builtAs, builtIf, buildable, building}
 
 unfoldable pub computing : Unit {0}
-unfolding andThen require need _also_ among every good digit capital identifierField same valueFrom number spells monthDays isDate dateField timeField entityValue ofCurrency entityField entity onRoster kind kindOf codeOf allowed member memberField fileHeader batchHeader amountOf accountGood informationGood flagGood counterGood transfer individual additional99 additional05 additionalBy additional plus withIndividual withAdditional batchControl blocks fileControl nothingCounted counted start flag beforeNext lastIndividual next fields judged finish at readingFrom parts recordsOf lengthGood reading posting postedBy senderAfter postingsFrom postings ownPostings signed effect position count listed newSession openingAnswer openedWith opening cellOf originOf identifierIf identifierOf keyOf answerTo cellAfter cellsAfter sessionAfter presenting spelled blanks joined numbered batchControlOf fileControlOf owed settled owedBefore settledBefore ending withControls closing widthBy width decimal signedDecimal figuresLine entityLine entityLines plusCell cellSums listing refusalLine hasHeader dateIn currencyIn numbersTo printed oneFile positionsOf prepended grouped batchesOf isTo itemsTo holding batchesTo itemRecords batchRecords headerFor extract trayRecords markGood trayRecordGood trayFault batchesAfter individualsAfter numberedBy numbering build zeroed marked stripped strip over written roomFor entityGiven extracting stripping trayAnswer builtAs builtIf buildable building
+unfolding andThen require need _also_ among every good digit capital identifierField same valueFrom number spells monthDays isDate dateField timeField entityValue ofCurrency entityField entity onRoster kind kindOf codeOf allowed member memberField fileHeader batchHeader amountOf accountGood informationGood flagGood counterGood transfer individual additional99 additional05 additionalBy additional plus withIndividual withAdditional batchControl blocks fileControl nothingCounted counted start flag beforeNext lastIndividual next fields judged finish at readingFrom parts recordsOf lengthGood reading posting postedBy senderAfter postingsFrom postings ownPostings signed effect position howMany listed newSession openingAnswer openedWith opening cellOf originOf identifierIf identifierOf keyOf answerTo cellAfter cellsAfter sessionAfter presenting spelled blanks joined numbered batchControlOf fileControlOf owed settled owedBefore settledBefore ending withControls closing widthBy width decimal signedDecimal figuresLine entityLine entityLines plusCell cellSums listing refusalLine hasHeader dateIn currencyIn numbersTo printed oneFile positionsOf prepended grouped batchesOf isTo itemsTo holding batchesTo itemRecords batchRecords headerFor extract trayRecords markGood trayRecordGood trayFault batchesAfter individualsAfter numberedBy numbering build zeroed marked stripped strip over written roomFor entityGiven extracting stripping trayAnswer builtAs builtIf buildable building
 computing = tt

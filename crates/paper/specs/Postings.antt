@@ -70,13 +70,13 @@ position e [] = pos 0
 position e (p ∷ ps) = effect e p +ℤ position e ps
 
 -- how many postings pass a test
-unfoldable pub count : (Posting → Bool) → List Posting → ℕ
-count test [] = 0
-count test (p ∷ ps) = cond (test p) 1 0 + count test ps
+unfoldable pub howMany : (Posting → Bool) → List Posting → ℕ
+howMany test [] = 0
+howMany test (p ∷ ps) = cond (test p) 1 0 + howMany test ps
 
 -- the numbers of individual records sent and received
 abbrev pub sent : ℕ → List Posting → ℕ
-sent e ps = count (λ p. eqb e (p .sender)) ps
+sent e ps = howMany (λ p. eqb e (p .sender)) ps
 
 abbrev pub received : ℕ → List Posting → ℕ
-received e ps = count (λ p. eqb e (p .destination)) ps
+received e ps = howMany (λ p. eqb e (p .destination)) ps

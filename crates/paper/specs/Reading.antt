@@ -18,7 +18,7 @@ use Rattle.paper.specs.declared.record.Tally.{Tally}
 use Rattle.paper.specs.Controls.{zeros, plus, withIndividual, withAdditional, batchControl, fileControl}
 
 -- what has been counted
-pub record Counts : Type 0 where
+pub record Reckoning : Type 0 where
   -- records, so that this is the next one's place
   pub place : ℕ
   -- the header of the last batch
@@ -30,14 +30,14 @@ pub record Counts : Type 0 where
   pub batch : Tally
   pub closed : Tally
 
-unfoldable pub nothingCounted : Counts
+unfoldable pub nothingCounted : Reckoning
 nothingCounted = record { place = 0; header = []; counter = 0; batches = 0; batch = zeros; closed = zeros }
 
 -- one record further
-abbrev pub onward : Counts → Counts
+abbrev pub onward : Reckoning → Reckoning
 onward c = record { place = c .place + 1; header = c .header; counter = c .counter; batches = c .batches; batch = c .batch; closed = c .closed }
 
-unfoldable pub counted : Kind → Counts → List ℕ → Counts
+unfoldable pub counted : Kind → Reckoning → List ℕ → Reckoning
 counted FileHeader c r = onward c
 counted BatchHeader c r = record { place = c .place + 1; header = r; counter = c .counter; batches = suc (c .batches); batch = zeros; closed = c .closed }
 counted Individual c r = record {
@@ -71,7 +71,7 @@ counted Other c r = onward c
 pub record State : Type 0 where
   pub before : Before
   pub individual : List ℕ
-  pub counts : Counts
+  pub counts : Reckoning
 
 unfoldable pub start : State
 start = record { before = Nothing; individual = []; counts = nothingCounted }

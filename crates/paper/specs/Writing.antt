@@ -8,7 +8,7 @@ use Rattle.paper.specs.Fields.{bytes, field}
 use Rattle.paper.specs.Kinds.{kindOf}
 use Rattle.paper.specs.declared.record.Tally.{Tally}
 use Rattle.paper.specs.Controls.{blocks}
-use Rattle.paper.specs.Reading.{Counts, nothingCounted, counted}
+use Rattle.paper.specs.Reading.{Reckoning, nothingCounted, counted}
 
 -- n in so many digits: its last ones, with zeros in front
 unfoldable pub spelled : ℕ → ℕ → List ℕ
@@ -39,16 +39,16 @@ fileControlOf all batches t =
     ++ spelled 12 (t .credits) ++ blanks 39
 
 -- the control of the batch that is open; before the first batch none is
-unfoldable pub owed : ℕ → Counts → List (List ℕ)
+unfoldable pub owed : ℕ → Reckoning → List (List ℕ)
 owed zero c = []
 owed (suc n) c = batchControlOf (c .header) (c .batch) ∷ []
 
-unfoldable pub settled : ℕ → Counts → Counts
+unfoldable pub settled : ℕ → Reckoning → Reckoning
 settled zero c = c
 settled (suc n) c = counted BatchControl c []
 
 -- a control goes before each later batch header
-unfoldable pub owedBefore : Kind → Counts → List (List ℕ)
+unfoldable pub owedBefore : Kind → Reckoning → List (List ℕ)
 owedBefore FileHeader c = []
 owedBefore BatchHeader c = owed (c .batches) c
 owedBefore Individual c = []
@@ -57,7 +57,7 @@ owedBefore BatchControl c = []
 owedBefore FileControl c = []
 owedBefore Other c = []
 
-unfoldable pub settledBefore : Kind → Counts → Counts
+unfoldable pub settledBefore : Kind → Reckoning → Reckoning
 settledBefore FileHeader c = c
 settledBefore BatchHeader c = settled (c .batches) c
 settledBefore Individual c = c
@@ -67,10 +67,10 @@ settledBefore FileControl c = c
 settledBefore Other c = c
 
 -- and one at the end if there was a batch; then the file control
-unfoldable pub ending : Counts → List (List ℕ)
+unfoldable pub ending : Reckoning → List (List ℕ)
 ending c = let d = settled (c .batches) c in owed (c .batches) c ++ fileControlOf (d .place + 1) (d .batches) (d .closed) ∷ []
 
-unfoldable pub withControls : Counts → List (List ℕ) → List (List ℕ)
+unfoldable pub withControls : Reckoning → List (List ℕ) → List (List ℕ)
 withControls c [] = ending c
 withControls c (r ∷ rs) = owedBefore (kindOf r) c ++ r ∷ withControls (counted (kindOf r) (settledBefore (kindOf r) c) r) rs
 

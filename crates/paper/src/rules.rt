@@ -7,6 +7,12 @@ pub enum Currency {
 impl Currency {
     // Dollars add this to an entity's number in its field.
     pub const DOLLARS_ADD: u64 = 500;
+    // The highest entity number.
+    pub const LAST: u64 = Currency::DOLLARS_ADD - 1;
+    // The numbers of dollars in a field.
+    pub const DOLLARS_FIRST: u64 = Currency::DOLLARS_ADD + 1;
+
+    pub const DOLLARS_LAST: u64 = Currency::DOLLARS_ADD + Currency::LAST;
 }
 
 // The date AAMMDD as the number its digits spell, the currency, and for each entity number whether it is on the roster.

@@ -7,7 +7,7 @@ ghost use Rattle.paper.specs.Checks.{fine};
 ghost use Rattle.paper.specs.Fields.{every, good};
 ghost use Rattle.paper.specs.Kinds.{kindOf, allowed};
 ghost use Rattle.paper.specs.Reading.{finish, lengthGood, reading};
-ghost use Rattle.state.specs.States.{recordAt, stepSays, stepped, InFile, Room, Preceded, Kept};
+ghost use Rattle.state.specs.States.{recordAt, stepSays, stepped, InFile, RoomToCount, Preceded, Kept};
 ghost use Rattle.record.specs.Verdicts.{under};
 ghost use Rattle.reading.specs.Said.{readingSays, Carries};
 ghost use Rattle.reading.specs.Taken.{taken};
@@ -73,7 +73,7 @@ fn fields(
     requires { ⌜ InFile (now file) place ⌝ }
     requires { ⌜ kindOf (recordAt (now file) place) ≡ kind ⌝ }
     requires { ⌜ allowed (state .before) kind ≡ fine ⌝ }
-    requires { ⌜ Room place state × Preceded (state .before) place state ⌝ }
+    requires { ⌜ RoomToCount place state × Preceded (state .before) place state ⌝ }
     ensures { λ r. ⌜ (stepSays (now (file .entry)) (place + 1) r ≡ stepped (under terms (now (roster .entry))) (now (file .entry)) place state) × Kept (place + 1) r ⌝ }
 {
     match kind {
@@ -98,7 +98,7 @@ fn step(
 ) -> Step
     requires { ⌜ InFile (now file) place ⌝ }
     requires { ⌜ (clean ≡ true → every good (now file) ≡ true) ⌝ }
-    requires { ⌜ Room place state × Preceded (state .before) place state ⌝ }
+    requires { ⌜ RoomToCount place state × Preceded (state .before) place state ⌝ }
     ensures { λ r. ⌜ (stepSays (now (file .entry)) (place + 1) r ≡ taken (under terms (now (roster .entry))) (now (file .entry)) place state) × Kept (place + 1) r ⌝ }
 {
     let rec = state::record_at(file, place);

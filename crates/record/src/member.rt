@@ -3,7 +3,7 @@ ghost use mathlib.Core.Path.{_≡_};
 ghost use Prim.Native.Nat.{_+_};
 ghost use Rattle.paper.specs.Fields.{field};
 ghost use Rattle.paper.specs.Records.{member, memberField};
-ghost use Rattle.field.specs.Part.{Inside};
+ghost use Rattle.field.specs.Part.{HasField};
 ghost use Rattle.record.specs.Verdicts.{checkOf};
 use crate::verdict::Verdict;
 use field::entity;
@@ -21,7 +21,7 @@ pub fn member(
     first: usize,
     last: usize,
 ) -> Verdict
-    requires { ⌜ Inside (now rec) first last ⌝ }
+    requires { ⌜ HasField (now rec) first last ⌝ }
     requires { ⌜ last ≡ first + 7 ⌝ }
     ensures { λ r. ⌜ checkOf r ≡ member currency (now (roster .entry)) (field (now (rec .entry)) first last) ⌝ }
 {
@@ -41,7 +41,7 @@ pub fn member_field(
     first: usize,
     last: usize,
 ) -> Verdict
-    requires { ⌜ Inside (now rec) first last ⌝ }
+    requires { ⌜ HasField (now rec) first last ⌝ }
     requires { ⌜ last ≡ first + 7 ⌝ }
     ensures { λ r. ⌜ checkOf r ≡ memberField currency (now (roster .entry)) (field (now (rec .entry)) first last) ⌝ }
 {

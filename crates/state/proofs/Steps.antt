@@ -11,7 +11,7 @@ use Rattle.paper.specs.Kinds.{kindOf}
 use Rattle.paper.specs.Reading as paper
 use Rattle.paper.specs.Reading.{fields, next, beforeNext, lastIndividual, counted, flag}
 use Rattle.state.specs.declared.State.{State}
-use Rattle.state.specs.States.{recordAt, meant, goes, stops, afterRecord, stepped, Preceded, Room}
+use Rattle.state.specs.States.{recordAt, meant, goes, stops, afterRecord, stepped, Preceded, RoomToCount}
 use Rattle.state.specs.Bounds.{Below}
 use Rattle.state.proofs.Bounds.{below-more}
 
@@ -42,12 +42,12 @@ standing-flagged false place st h i = h
 -- ---- room for one record more
 
 pub room-next : (place : ℕ) (st : State) → st .batches ≤ place + 1 → Below (10 ^ 10 * place + 10 ^ 10) (st .batch)
-    → Below (10 ^ 14 * place + 10 ^ 14) (st .closed) → Room (place + 1) st
+    → Below (10 ^ 14 * place + 10 ^ 14) (st .closed) → RoomToCount (place + 1) st
 room-next place st n b c = record { batches = n; batch = below-more (st .batch) (omega arith) b; closed = below-more (st .closed) (omega arith) c }
 
 -- what is not counted on has room
-pub batch-stays : (place : ℕ) (st : State) → Room place st → Below (10 ^ 10 * place + 10 ^ 10) (st .batch)
+pub batch-stays : (place : ℕ) (st : State) → RoomToCount place st → Below (10 ^ 10 * place + 10 ^ 10) (st .batch)
 batch-stays place st r = below-more (st .batch) (omega arith) (r .batch)
 
-pub closed-stays : (place : ℕ) (st : State) → Room place st → Below (10 ^ 14 * place + 10 ^ 14) (st .closed)
+pub closed-stays : (place : ℕ) (st : State) → RoomToCount place st → Below (10 ^ 14 * place + 10 ^ 14) (st .closed)
 closed-stays place st r = below-more (st .closed) (omega arith) (r .closed)

@@ -51,7 +51,7 @@ stepSays file place (Next st) = goes (meant file place st)
 stepSays file place (Stop fault) = stops (numberOf fault)
 
 -- room: each of the records before this place adds at most ten digits
-pub record Room (place : ℕ) (st : State) : Type 0 where
+pub record RoomToCount (place : ℕ) (st : State) : Type 0 where
   pub batches : st .batches ≤ place
   pub batch : Below (10 ^ 10 * place) (st .batch)
   pub closed : Below (10 ^ 14 * place) (st .closed)
@@ -67,7 +67,7 @@ Preceded Ended place st = Unit {0}
 
 -- what a step keeps for the next
 unfoldable pub Kept : ℕ → Step → Type 0
-Kept place (Next st) = Room place st × Preceded (st .before) place st
+Kept place (Next st) = RoomToCount place st × Preceded (st .before) place st
 Kept place (Stop fault) = Unit {0}
 
 -- a file that is not too long has a record at this place

@@ -4,7 +4,7 @@ ghost use Prim.Native.Nat.{_+_, _<_};
 ghost use Rattle.paper.specs.declared.rules.Rules.{Rules};
 ghost use Rattle.paper.specs.declared.record.Kind.the-variants.{BatchControl};
 ghost use Rattle.paper.specs.Kinds.{kindOf};
-ghost use Rattle.state.specs.States.{recordAt, stepSays, stepped, InFile, Room, Kept, Held};
+ghost use Rattle.state.specs.States.{recordAt, stepSays, stepped, InFile, RoomToCount, Kept, Held};
 use crate::State;
 use crate::Step;
 use crate::record_at;
@@ -16,7 +16,7 @@ use record::verdict::Verdict;
 pub fn step(file: &[u8], place: usize, state: State) -> Step
     requires { ⌜ InFile (now file) place ⌝ }
     requires { ⌜ kindOf (recordAt (now file) place) ≡ BatchControl ⌝ }
-    requires { ⌜ Room place state × (state .header < place) ⌝ }
+    requires { ⌜ RoomToCount place state × (state .header < place) ⌝ }
     ensures { λ r. ⌜ ((rules : Rules) → stepSays (now (file .entry)) (place + 1) r ≡ stepped rules (now (file .entry)) place state) × Kept (place + 1) r × Held BatchControl place state r ⌝ }
 {
     let rec = record_at(file, place);

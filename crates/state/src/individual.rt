@@ -4,7 +4,7 @@ ghost use Prim.Native.Nat.{_<_, _+_};
 ghost use Rattle.paper.specs.declared.record.Kind.the-variants.{Individual};
 ghost use Rattle.paper.specs.Kinds.{kindOf};
 ghost use Rattle.record.specs.Verdicts.{under};
-ghost use Rattle.state.specs.States.{recordAt, stepSays, stepped, InFile, Room, Kept, Held};
+ghost use Rattle.state.specs.States.{recordAt, stepSays, stepped, InFile, RoomToCount, Kept, Held};
 use crate::State;
 use crate::Step;
 use crate::flag;
@@ -26,7 +26,7 @@ pub fn step(
 ) -> Step
     requires { ⌜ InFile (now file) place ⌝ }
     requires { ⌜ kindOf (recordAt (now file) place) ≡ Individual ⌝ }
-    requires { ⌜ Room place state × (state .header < place) ⌝ }
+    requires { ⌜ RoomToCount place state × (state .header < place) ⌝ }
     ensures { λ r. ⌜ (stepSays (now (file .entry)) (place + 1) r ≡ stepped (under terms (now (roster .entry))) (now (file .entry)) place state) × Kept (place + 1) r × Held Individual place state r ⌝ }
 {
     let rec = record_at(file, place);

@@ -11,9 +11,12 @@ use Rattle.paper.specs.Answers.{said}
 use Rattle.paper.proofs.Tests.{T-of}
 use Rattle.paper.proofs.Numbers.{said-once}
 use Rattle.tray.specs.declared.pieces.Pieces.{Pieces}
+use Rattle.watch.specs.declared.Watch.{Watch}
+use Rattle.tray.specs.declared.pieces.Look.{Look}
 use Rattle.tray.specs.declared.pieces.Known.{Known}
-use Rattle.tray.specs.declared.pieces.Known.the-variants.{Answered, Endless}
+use Rattle.tray.specs.declared.pieces.Known.the-variants.{Finite, Endless}
 use Rattle.tray.specs.Seen.{mostSeen, Seen, ReadOn, Tells}
+use Rattle.tray.specs.Looks.{piecesIn, watchedIn, LookBegun, LookOn}
 
 -- what is known is its three parts
 same-parts : (r q : Pieces) → said (r .faults) ≡ said (q .faults) → r .records ≡ q .records → r .left ≡ q .left → r ≡ q
@@ -45,7 +48,18 @@ read-once p piece r q s t =
     (λ l. s .stays l ∙ sym (t .stays l))
 
 pub tells-once : (p : Pieces) (header : List ℕ) (r q : Known) → Tells p header r → Tells p header q → r ≡ q
-tells-once p header (Answered a) (Answered b) s t = ap Answered (said-once a b (s .1 ∙ sym (t .1)))
-tells-once p header (Answered a) Endless s t = absurd (omega (arith, s .0, t))
-tells-once p header Endless (Answered b) s t = absurd (omega (arith, s, t .0))
+tells-once p header (Finite a) (Finite b) s t = ap Finite (said-once a b (s .1 ∙ sym (t .1)))
+tells-once p header (Finite a) Endless s t = absurd (omega (arith, s .0, t))
+tells-once p header Endless (Finite b) s t = absurd (omega (arith, s, t .0))
 tells-once p header Endless Endless s t = refl
+
+-- ---- a look is its two parts
+
+same-look : (l m : Look) → piecesIn l ≡ piecesIn m → watchedIn l ≡ watchedIn m → l ≡ m
+same-look l m p w = ap (λ (x : Pieces). record { pieces = x; watch = watchedIn l }) p ∙ ap (λ (x : Watch). record { pieces = piecesIn m; watch = x }) w
+
+pub look-begun-once : (w : Watch) (l m : Look) → LookBegun w l → LookBegun w m → l ≡ m
+look-begun-once w l m a b = same-look l m (begun-once (piecesIn l) (piecesIn m) (a .seen) (b .seen)) (a .watch ∙ sym (b .watch))
+
+pub look-read-once : (before : Look) (piece : List ℕ) (l m : Look) → LookOn before piece l → LookOn before piece m → l ≡ m
+look-read-once before piece l m a b = same-look l m (read-once (piecesIn before) piece (piecesIn l) (piecesIn m) (a .seen) (b .seen)) (a .watch ∙ sym (b .watch))

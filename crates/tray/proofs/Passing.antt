@@ -11,7 +11,7 @@ use Rattle.paper.specs.declared.record.Kind.the-variants.{FileHeader, BatchHead
 use Rattle.paper.specs.Answers.{accepted, refused, andThen, require}
 use Rattle.paper.specs.Kinds.{kindOf}
 use Rattle.paper.specs.Trays.{trayRecords, trayRecordGood, trayFault, batchesAfter}
-use Rattle.batches.specs.Blocks.{opens}
+use Rattle.batches.specs.Blocks.{opensBatch}
 use Rattle.tray.specs.Trays.{trayRecordAt, bodyAt, bodies, batchesIn}
 use Rattle.tray.proofs.Places.{records-at, records-none, bodies-at, bodies-none}
 
@@ -33,8 +33,8 @@ module _ (tray : List ℕ) (i : ℕ) where
 
 -- ---- batches
 
-opened : (k : Kind) (b : ℕ) → batchesAfter k b ≡ cond (opens k) (b + 1) b
-unfolding opens batchesAfter
+opened : (k : Kind) (b : ℕ) → batchesAfter k b ≡ cond (opensBatch k) (b + 1) b
+unfolding opensBatch batchesAfter
 opened FileHeader b = refl
 opened BatchHeader b = sym (add-one b)
 opened Individual b = refl
@@ -52,7 +52,7 @@ pub none-counted : (tray : List ℕ) → Counted tray 0 0
 none-counted tray = record { fewer = omega arith; rest = refl }
 
 module _ (tray : List ℕ) {i count : ℕ} (c : Counted tray i count) where
-  pub one-counted : i < length tray / 96 → {b : Bool} → b ≡ opens (kindOf (bodyAt tray i)) → {later : ℕ} → later ≡ cond b (count + 1) count
+  pub one-counted : i < length tray / 96 → {b : Bool} → b ≡ opensBatch (kindOf (bodyAt tray i)) → {later : ℕ} → later ≡ cond b (count + 1) count
       → Counted tray (i + 1) later
   unfolding batchesIn
   one-counted h {b} e {later} l =

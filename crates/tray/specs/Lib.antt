@@ -1,2 +1,3 @@
 pub mod Trays
 pub mod Seen
+pub mod Looks

@@ -9,7 +9,7 @@ use Rattle.paper.specs.Answers.{Said, said, refused, andThen, require}
 use Rattle.paper.specs.Trays.{trayRecords, trayFault}
 use Rattle.tray.specs.declared.pieces.Pieces.{Pieces}
 use Rattle.tray.specs.declared.pieces.Known.{Known}
-use Rattle.tray.specs.declared.pieces.Known.the-variants.{Answered, Endless}
+use Rattle.tray.specs.declared.pieces.Known.the-variants.{Finite, Endless}
 
 -- more bytes than 64 bits can count: no tray in memory and no file has so many records
 abbrev pub mostSeen : ℕ
@@ -43,5 +43,5 @@ longAnswer p header = andThen (require (eqb (length header) 94 && eqb (p .left) 
 
 -- it is given of a tray that has an end, and of no other
 abbrev pub Tells : Pieces → List ℕ → Known → Type 0
-Tells p header (Answered a) = (p .records ≤ mostSeen) × (said a ≡ longAnswer p header)
+Tells p header (Finite a) = (p .records ≤ mostSeen) × (said a ≡ longAnswer p header)
 Tells p header Endless = mostSeen < p .records

@@ -5,25 +5,27 @@ ghost use Prim.Native.Nat.{_≤_};
 ghost use Rattle.paper.specs.Answers.{said, andThen};
 ghost use Rattle.paper.specs.Trays.{trayRecords, trayFault};
 ghost use Rattle.tray.specs.Seen.{mostSeen, Seen, ReadOn, Tells};
+ghost use Rattle.tray.specs.Looks.{piecesIn, LookBegun, LookOn};
 use crate::Tray;
 use crate::fault;
 use paper::answer::Answer;
 use paper::answer::Fault;
 use state::State;
+use watch::Watch;
 
 // What is known after some pieces.
 pub struct Pieces {
     // 207 at the first bad record
-    pub faults: Answer,
+    faults: Answer,
     // whole records
-    pub records: usize,
+    records: usize,
     // bytes after the last whole record
-    pub left: usize,
+    left: usize,
 }
 
 // What can be told of a tray after all its pieces.
 pub enum Known {
-    Answered(Answer),
+    Finite(Answer),
     Endless,
 }
 
@@ -43,7 +45,7 @@ impl Pieces {
     // More bytes than 64 bits can count: no tray in memory and no file has so many records.
     pub const MOST: usize = 1 << 60;
 
-    pub fn begun() -> Pieces
+    fn begun() -> Pieces
         ensures { λ r. ⌜ Seen r [] ⌝ }
     {
         Pieces {
@@ -54,7 +56,7 @@ impl Pieces {
     }
 
     // The next piece of the tray.
-    pub fn read(self, piece: &[u8]) -> Pieces
+    fn read(self, piece: &[u8]) -> Pieces
         ensures { λ r. ⌜ ReadOn self (now (piece .entry)) r ⌝ }
     {
         if self.records > Pieces::MOST {
@@ -70,19 +72,58 @@ impl Pieces {
     }
 
     // The lengths first, then the first bad record, and last 201.
-    pub fn answer(self, header: &[u8]) -> Known
+    fn answer(self, header: &[u8]) -> Known
         ensures { λ r. ⌜ Tells self (now (header .entry)) r ⌝ }
     {
         if self.records > Pieces::MOST {
             return Known::Endless;
         }
         if header.len() != State::RECORD {
-            return Known::Answered(Answer::Refused(Fault::Tray, 0));
+            return Known::Finite(Answer::Refused(Fault::Tray, 0));
         }
         if self.left != 0 {
-            return Known::Answered(Answer::Refused(Fault::Tray, 0));
+            return Known::Finite(Answer::Refused(Fault::Tray, 0));
         }
         let faults = self.faults;
-        Known::Answered(faults.and_then(Answer::Refused(Fault::Length, 0)))
+        Known::Finite(faults.and_then(Answer::Refused(Fault::Length, 0)))
+    }
+}
+
+// A tray, as far as it was looked at. Only this room can make or change one, so that all of it was looked at that was watched.
+pub struct Look {
+    pieces: Pieces,
+    watch: Watch,
+}
+
+impl Look {
+    // Watched at the same place as another, from its first byte.
+    pub fn begun(watch: Watch) -> Look
+        ensures { λ r. ⌜ LookBegun watch r ⌝ }
+    {
+        Look {
+            pieces: Pieces::begun(),
+            watch: watch.anew(),
+        }
+    }
+
+    // The next piece.
+    pub fn read(self, piece: &[u8]) -> Look
+        ensures { λ r. ⌜ LookOn self (now (piece .entry)) r ⌝ }
+    {
+        let pieces = self.pieces;
+        let watch = self.watch;
+        let after = pieces.read(piece);
+        let watched = watch.on(piece);
+        Look {
+            pieces: after,
+            watch: watched,
+        }
+    }
+
+    pub fn answer(self, header: &[u8]) -> Known
+        ensures { λ r. ⌜ Tells (piecesIn self) (now (header .entry)) r ⌝ }
+    {
+        let pieces = self.pieces;
+        pieces.answer(header)
     }
 }

@@ -1,3 +1,4 @@
 pub mod Words
 pub mod Rosters
 pub mod Asking
+pub mod Texts

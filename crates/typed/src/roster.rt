@@ -3,8 +3,10 @@ ghost use mathlib.Core.Path.{_≡_};
 ghost use lib.ListN.{length};
 ghost use Rattle.paper.specs.Buffers.{over};
 ghost use Rattle.typed.specs.Rosters.{separator, begun, noted, closed, withIf, readOn, entitiesIn};
+ghost use Rattle.typed.specs.Texts.{rosterIn, textBegun, textOn};
 use crate::words;
 use desk::Session;
+use watch::Watch;
 
 // What is known after part of the text.
 pub struct Roster {
@@ -40,7 +42,7 @@ fn noted(listed: [bool; Session::ROSTER], number: u64) -> [bool; Session::ROSTER
 }
 
 impl Roster {
-    pub fn begun() -> Roster
+    fn begun() -> Roster
         ensures { λ r. ⌜ r ≡ begun ⌝ }
     {
         Roster {
@@ -80,7 +82,7 @@ impl Roster {
     }
 
     // The next piece of the text.
-    pub fn read(self, piece: &[u8]) -> Roster
+    fn read(self, piece: &[u8]) -> Roster
         ensures { λ r. ⌜ r ≡ readOn self (now (piece .entry)) ⌝ }
     {
         let mut roster = self;
@@ -108,5 +110,43 @@ impl Roster {
             e += 1;
         }
         count
+    }
+}
+
+// A text that lists a roster, as far as it was read. Only this room can make or change one, so that all of it was read that was watched.
+pub struct Text {
+    roster: Roster,
+    watch: Watch,
+}
+
+impl Text {
+    // Watched at the same place as another, from its first byte.
+    pub fn begun(watch: Watch) -> Text
+        ensures { λ r. ⌜ r ≡ textBegun watch ⌝ }
+    {
+        Text {
+            roster: Roster::begun(),
+            watch: watch.anew(),
+        }
+    }
+
+    // The next piece.
+    pub fn read(self, piece: &[u8]) -> Text
+        ensures { λ r. ⌜ r ≡ textOn self (now (piece .entry)) ⌝ }
+    {
+        let roster = self.roster;
+        let watch = self.watch;
+        let after = roster.read(piece);
+        let watched = watch.on(piece);
+        Text {
+            roster: after,
+            watch: watched,
+        }
+    }
+
+    pub fn roster(self) -> Roster
+        ensures { λ r. ⌜ r ≡ rosterIn self ⌝ }
+    {
+        self.roster
     }
 }

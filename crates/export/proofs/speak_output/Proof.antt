@@ -1,14 +1,14 @@
 use borrow.Author.Needs.{needs}
-use Rattle.export.specs.Spoken.{spokenOf, filledOf}
+use Rattle.export.specs.Spoken.{spokenOf, deliveredOf}
 use Rattle.export.proofs.speak_output.Statement.{statement}
 use Rattle.export.proofs.speak_output.Tie as tie
 
 returns : tie.Need-returns
-unfolding filledOf spokenOf
+unfolding deliveredOf spokenOf
 returns c buffer = rw (c .before .before .output .given .1, c .speak .ensures)
 
 returns-2 : tie.Need-returns-2
-unfolding filledOf spokenOf
+unfolding deliveredOf spokenOf
 returns-2 c buffer = rw (c .before .before .output2 .given .1, c .speak2 .ensures)
 
 pub speak-output-spec : {M : Type 1} → statement M

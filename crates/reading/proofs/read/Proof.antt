@@ -7,7 +7,7 @@ use borrow.Author.Tests.{not-true, not-false}
 use lib.ListN.{length, drop}
 use Rattle.paper.specs.Fields.{every, good}
 use Rattle.paper.specs.Reading.{start, lengthGood, finish, readingFrom, parts}
-use Rattle.state.specs.States.{meant, stepSays, Room, Preceded, Kept}
+use Rattle.state.specs.States.{meant, stepSays, RoomToCount, Preceded, Kept}
 use Rattle.record.specs.Verdicts.{under}
 use Rattle.state.proofs.Bounds.{below-zeros}
 use Rattle.reading.specs.Said.{readingSays, Carries}
@@ -20,7 +20,7 @@ Inv-loop terms roster file clean records state₀ place₀ state place =
     (place ≤ records)
     × (lengthGood (length file) ≡ true)
     × (length file ≤ 940000)
-    × Room place state
+    × RoomToCount place state
     × Preceded (state .before) place state
     × (clean ≡ true → every good file ≡ true)
     × (readingFrom (under terms roster) start (parts 94 records file)

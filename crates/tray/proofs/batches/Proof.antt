@@ -5,7 +5,7 @@ use mathlib.Core.Path.{_≡_, ap, _∙_}
 use borrow.Author.Needs.{needs}
 use native.Mathlib.Omega.{arith}
 use Rattle.paper.specs.Kinds.{kindOf}
-use Rattle.batches.specs.Blocks.{opens}
+use Rattle.batches.specs.Blocks.{opensBatch}
 use Rattle.tray.proofs.Passing.{Counted, none-counted, one-counted, all-counted}
 use Rattle.tray.proofs.batches.Statement.{statement}
 use Rattle.tray.proofs.batches.Tie as tie
@@ -22,7 +22,7 @@ add-count c = let l = c .before .before .before .before in omega (arith, l .loop
 loop-again : tie.Need-loop-again Inv-loop μ-loop
 loop-again c =
     let r = c .before .before in
-    let e = c .before .opens .ensures ∙ ap (λ b. opens (kindOf b)) (r .body-at .ensures .0) in
+    let e = c .before .opens .ensures ∙ ap (λ b. opensBatch (kindOf b)) (r .body-at .ensures .0) in
     let l = r .before .before .loop in
     let n : c .if1 .count ≡ cond (c .before .opens .result) (l .count + 1) (l .count) =
     ⊎-elim (λ w. rw (w .0 .taken) (w .1)) (λ w. rw (w .0 .left) (w .1)) (c .if1 .came) in

@@ -1,10 +1,10 @@
 use borrow.Author.Needs.{needs}
-use Rattle.files.proofs.Parts.{taken, front}
+use Rattle.files.proofs.Parts.{in-file, front}
 use Rattle.counter.proofs.jobs.build.Statement.{statement}
 use Rattle.counter.proofs.jobs.build.Tie as tie
 
 inside : tie.Need-array-share-prefix-header
-inside c = taken _ (c .before .taken .given .1) (c .before .before .before .before .file .ensures)
+inside c = in-file _ (c .before .taken .given .1) (c .before .before .before .before .file .ensures)
 
 slice-aggregate-build-from : tie.Need-slice-aggregate-build-from
 slice-aggregate-build-from c = front _ _ (inside (c .before))

@@ -1,12 +1,12 @@
 use borrow.Author.Needs.{needs}
 use Rattle.desk.proofs.Extracts.{extract-inside}
-use Rattle.files.proofs.Parts.{taken, front}
+use Rattle.files.proofs.Parts.{in-file, front}
 use Rattle.counter.proofs.Written.{fits}
 use Rattle.counter.proofs.jobs.extract.Statement.{statement}
 use Rattle.counter.proofs.jobs.extract.Tie as tie
 
 inside : tie.Need-array-share-prefix-input
-inside c = let m = c .before .before .before in taken _ (m .taken .given .1) (m .before .before .before .file .ensures)
+inside c = let m = c .before .before .before in in-file _ (m .taken .given .1) (m .before .before .before .file .ensures)
 
 slice-aggregate-extract : tie.Need-slice-aggregate-extract
 slice-aggregate-extract c = front _ _ (inside (c .before))

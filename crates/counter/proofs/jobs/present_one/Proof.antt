@@ -1,10 +1,10 @@
 use borrow.Author.Needs.{needs}
-use Rattle.files.proofs.Parts.{taken, front}
+use Rattle.files.proofs.Parts.{in-file, front}
 use Rattle.counter.proofs.jobs.present_one.Statement.{statement}
 use Rattle.counter.proofs.jobs.present_one.Tie as tie
 
 inside : tie.Need-array-share-prefix-input
-inside c = taken _ (c .before .taken .given .1) (c .before .before .before .before .file .ensures)
+inside c = in-file _ (c .before .taken .given .1) (c .before .before .before .before .file .ensures)
 
 slice-aggregate-present : tie.Need-slice-aggregate-present
 slice-aggregate-present c = front _ _ (inside (c .before))

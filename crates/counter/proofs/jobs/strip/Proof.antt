@@ -1,12 +1,12 @@
 use borrow.Author.Needs.{needs}
 use Rattle.desk.proofs.Stripping.{strip-inside}
-use Rattle.files.proofs.Parts.{taken, front}
+use Rattle.files.proofs.Parts.{in-file, front}
 use Rattle.counter.proofs.Written.{fits}
 use Rattle.counter.proofs.jobs.strip.Statement.{statement}
 use Rattle.counter.proofs.jobs.strip.Tie as tie
 
 inside : tie.Need-array-share-prefix-input
-inside c = let m = c .before .before in taken _ (m .taken .given .1) (m .before .before .before .file .ensures)
+inside c = let m = c .before .before in in-file _ (m .taken .given .1) (m .before .before .before .file .ensures)
 
 slice-aggregate-strip : tie.Need-slice-aggregate-strip
 slice-aggregate-strip c = front _ _ (inside (c .before))

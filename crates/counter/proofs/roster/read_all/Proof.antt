@@ -1,22 +1,24 @@
 use Prim.Native.Nat.{_-_}
-use mathlib.Core.Path.{_≡_, sym, _∙_}
+use mathlib.Core.Path.{_≡_, sym, ap, _∙_}
 use native.Mathlib.Omega.{arith}
 use borrow.Author.Needs.{needs}
 use lib.ListN.{length}
+use Rattle.typed.specs.Texts.{textBegun}
 use Rattle.files.specs.Sources.{handedBy, mostHanded}
 use Rattle.files.proofs.Parts.{read-further, nearer}
-use Rattle.counter.proofs.Gathering.{ReadTo, nothing-read, not-read, last-read, read-to}
+use Rattle.counter.specs.Gathering.{WholeRead}
+use Rattle.counter.proofs.Gathering.{nothing-read, not-read, last-read, read-to}
 use Rattle.counter.proofs.roster.read_all.Statement.{statement}
 use Rattle.counter.proofs.roster.read_all.Tie as tie
 
 abbrev Inv-loop : tie.InvT-loop
-Inv-loop path buffer₀ roster₀ before₀ buffer roster before = ReadTo before₀ roster before
+Inv-loop path buffer₀ text₀ before₀ buffer text before = WholeRead before text
 
 abbrev μ-loop : tie.MeasureT-loop
-μ-loop path buffer₀ roster₀ before₀ buffer roster before = mostHanded - handedBy before
+μ-loop path buffer₀ text₀ before₀ buffer text before = mostHanded - handedBy before
 
 loop-holds : tie.Need-loop-holds Inv-loop μ-loop
-loop-holds c = nothing-read _ _ (c .begun .ensures)
+loop-holds c = nothing-read _ _ (c .before .before .before .pre) (c .begun .ensures ∙ ap textBegun (c .before .watch .ensures))
 
 -- an array of so many bytes
 lent : (c : tie.After-read-on-arg Inv-loop μ-loop) → length (c .before .loop .buffer) ≡ 65536
@@ -46,7 +48,7 @@ read-all-spec =
     (tie.spec
     Inv-loop
     μ-loop
-    (λ c κs. search needs)
+    (λ c κs. search needs) (λ c κs. search needs)
     loop-holds
     (λ c κs. search needs) (λ c. search needs) (λ c. search needs)
     returns

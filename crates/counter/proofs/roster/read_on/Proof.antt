@@ -1,24 +1,21 @@
 use borrow.Author.Needs.{needs}
-use lib.ListN.{length}
-use Rattle.typed.specs.Rosters.{readOn}
 use Rattle.files.specs.Sources.{ReadFurther}
 use Rattle.files.proofs.Parts.{read-further, front}
 use Rattle.counter.proofs.roster.read_on.Statement.{statement}
 use Rattle.counter.proofs.roster.read_on.Tie as tie
 
 returns : tie.Need-returns
-unfolding readOn
-returns c = record { filled = c .before .before .before .before .fill .ensures; roster = rw (c .enum-told .given .1) }
+returns c = record { filled = c .before .before .before .before .fill .ensures; text = rw (c .enum-told .given .1) tt }
 
 -- what was read into the buffer
-got : (c : tie.After-filled) → ReadFurther (c .before .before .before .before .before .before .before .before .args .source) (c .filled .given .0 .1 .0) (length (c .before .before .before .before .fill .last .1 .1 .0)) (c .filled .given .0 .0)
+got : (c : tie.After-filled) → ReadFurther (c .before .before .before .before .before .before .before .before .args .source) (c .filled .given .0 .1 .0) (c .before .before .before .before .fill .last .1 .1 .0) (c .filled .given .0 .0)
 got c = read-further _ _ (c .filled .given .1) (c .before .before .before .before .fill .ensures)
 
 slice-aggregate-read : tie.Need-slice-aggregate-read
-slice-aggregate-read c = front _ _ (got (c .before .before) .within)
+slice-aggregate-read c = front _ _ (got (c .before .before) .fits)
 
 returns-2 : tie.Need-returns-2
-returns-2 c = record { filled = got (c .before .before .before); roster = c .read .ensures }
+returns-2 c = record { filled = got (c .before .before .before); text = c .read .ensures }
 
 pub read-on-spec : {M : Type 1} → statement M
 read-on-spec =
@@ -26,7 +23,7 @@ read-on-spec =
     (tie.spec
     (λ c κs. search needs) (λ c. search needs) (λ c. search needs) (λ c. search needs)
     returns
-    (λ c. got (c .before) .within)
+    (λ c. got (c .before) .fits)
     slice-aggregate-read
     (λ c κs. search needs) (λ c. search needs)
     returns-2)

@@ -2,27 +2,24 @@ use Prim.Native.Nat.{_-_}
 use mathlib.Core.Path.{_≡_, sym, _∙_}
 use native.Mathlib.Omega.{arith}
 use borrow.Author.Needs.{needs}
-use lib.ListN.{length, take}
-use Rattle.tray.specs.Seen.{ReadOn}
-use Rattle.files.specs.Sources.{handedBy, mostHanded, ReadFurther}
+use lib.ListN.{length}
+use Rattle.files.specs.Sources.{handedBy, mostHanded}
 use Rattle.files.proofs.Parts.{nearer}
-use Rattle.counter.proofs.Looking.{SoFar, begins, further, goes-on, ends}
+use Rattle.counter.specs.Looking.{PieceLooked, LongSoFar}
+use Rattle.counter.proofs.Looking.{piece-looked, goes-on, ends}
 use Rattle.counter.proofs.trays.look_through.Statement.{statement}
 use Rattle.counter.proofs.trays.look_through.Tie as tie
 
 abbrev Inv-loop : tie.InvT-loop
-Inv-loop first path buffer₀ seen₀ before₀ buffer seen before = SoFar first before₀ before seen
+Inv-loop path buffer₀ seen₀ before₀ buffer seen before = LongSoFar before seen
 
 abbrev μ-loop : tie.MeasureT-loop
-μ-loop first path buffer₀ seen₀ before₀ buffer seen before = mostHanded - handedBy before
+μ-loop path buffer₀ seen₀ before₀ buffer seen before = mostHanded - handedBy before
 
 loop-holds : tie.Need-loop-holds Inv-loop μ-loop
-loop-holds c = begins _ _ _ _ (c .before .before .begun .ensures) (c .read .ensures)
+loop-holds c = c .before .pre
 
--- arrays of so many bytes
-wide : (c : tie.At-loop Inv-loop μ-loop) → length (c .before .before .before .before .before .args .first .now) ≡ 960096
-wide c = search needs
-
+-- an array of so many bytes
 lent : (c : tie.After-look-on-arg Inv-loop μ-loop) → length (c .before .loop .buffer) ≡ 960096
 lent c = search needs
 
@@ -30,20 +27,19 @@ held : (c : tie.After-look-on Inv-loop μ-loop) → length (c .look-on .last .1 
 held c = c .look-on .kept .1 .1 .1 .0 ∙ lent (c .before)
 
 -- the piece of this turn
-on : (c : tie.After-piece Inv-loop μ-loop) → ReadFurther (c .before .before .before .before .loop .before) (c .piece .given .0 .1 .0) (length (c .before .before .look-on .last .1 .1 .1 .0)) (c .piece .given .0 .0)
-    × ReadOn (c .before .before .before .before .loop .seen) (take (c .piece .given .0 .1 .0) (c .before .before .look-on .last .1 .1 .1 .0)) (c .piece .given .0 .1 .1 .0)
-on c = further _ _ _ (c .piece .given .1) (c .before .before .look-on .ensures)
+on : (c : tie.After-piece Inv-loop μ-loop) → PieceLooked (c .before .before .before .before .loop .seen) (c .before .before .before .before .loop .before) (c .before .before .look-on .last .1 .1 .1 .0) (c .piece .given .0 .0) (c .piece .given .0 .1 .0) (c .piece .given .0 .1 .1 .0)
+on c = piece-looked _ _ _ (c .piece .given .1) (c .before .before .look-on .ensures)
 
 returns-2 : tie.Need-returns-2 Inv-loop μ-loop
 returns-2 c =
-    let l = c .before .before .before .before .before .before .before in ends (wide l) (l .loop .inv) _ (on (c .before .before .before)) (sym (c .before .has-ended .ensures) ∙ c .if1 .taken)
+    ends (on (c .before .before .before)) (c .before .before .before .before .before .before .before .loop .inv) (sym (c .before .has-ended .ensures) ∙ c .if1 .taken)
 
 loop-less : tie.Need-loop-less Inv-loop μ-loop
-loop-less c = nearer _ _ _ _ (on (c .before .before .before) .0) (sym (c .before .has-ended .ensures) ∙ c .if1 .left) (omega (arith, held (c .before .before .before .before .before)))
+loop-less c = nearer _ _ _ _ (on (c .before .before .before) .further) (sym (c .before .has-ended .ensures) ∙ c .if1 .left) (omega (arith, held (c .before .before .before .before .before)))
 
 loop-again : tie.Need-loop-again Inv-loop μ-loop
 loop-again c =
-    let l = c .before .before .before .before .before .before .before in goes-on (wide l) (l .loop .inv) _ (on (c .before .before .before)) (sym (c .before .has-ended .ensures) ∙ c .if1 .left) (held (c .before .before .before .before .before))
+    goes-on (on (c .before .before .before)) (c .before .before .before .before .before .before .before .loop .inv) (sym (c .before .has-ended .ensures) ∙ c .if1 .left) (held (c .before .before .before .before .before))
 
 pub look-through-spec : {M : Type 1} → statement M
 look-through-spec =
@@ -51,7 +47,6 @@ look-through-spec =
     (tie.spec
     Inv-loop
     μ-loop
-    (λ c κs. search needs) (λ c κs. search needs)
     loop-holds
     (λ c κs. search needs) (λ c. search needs) (λ c. search needs) (λ c. search needs) (λ c κs. search needs)
     returns-2

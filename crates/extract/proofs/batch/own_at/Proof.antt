@@ -1,6 +1,6 @@
 use borrow.Author.Needs.{needs}
 use native.Mathlib.Omega.{arith}
-use Rattle.batches.specs.Blocks.{opens}
+use Rattle.batches.specs.Blocks.{opensBatch}
 use Rattle.batches.proofs.Own.{own-there, none-there}
 use Rattle.picking.specs.Places.{chosen}
 use Rattle.picking.proofs.Chosen.{length-chosen, at-index}
