@@ -30,6 +30,10 @@ hasEnded source = source .ended
 abbrev pub descriptorOf : Source → ℤ
 descriptorOf source = source .fd
 
+-- of what the system keeps for it: how far it has come
+abbrev pub meterOf : Source → ℤ
+meterOf source = source .meter
+
 -- one that has handed over so many bytes is not read on
 abbrev pub mostHanded : ℕ
 mostHanded = 2 ^ 63
@@ -37,6 +41,7 @@ mostHanded = 2 ^ 63
 -- nothing has been handed over; which place is watched is not said
 pub record JustOpened (source : Source) : Type 0 where
   pub descriptor : T (nonNeg (descriptorOf source))
+  pub meter : T (nonNeg (meterOf source))
   pub total : handedBy source ≡ 0
   pub watch : watchOf source ≡ watchAt (placeOf (watchOf source))
   pub ended : hasEnded source ≡ false
@@ -53,6 +58,7 @@ pub record ReadFurther (before : Source) (n : ℕ) (buffer : List ℕ) (after : 
   pub watch : watchOf after ≡ watchOn (watchOf before) (take n buffer)
   pub ended : hasEnded after ≡ ltb n (length buffer)
   pub descriptor : descriptorOf after ≡ descriptorOf before
+  pub meter : meterOf after ≡ meterOf before
 
 abbrev pub AsFilled : Source → List ℕ → Filled → Type 0
 AsFilled before buffer (filled.Bytes after n) = ReadFurther before n buffer after

@@ -6,6 +6,7 @@ ghost use Rattle.io.specs.Counts.{Counts};
 ghost use Rattle.files.specs.Counted.{Counted};
 ghost use Rattle.files.specs.Sources.{handedBy, hasEnded, watchOf, mostHanded, AsOpened, AsFilled, AsFile};
 use libc::ESPIPE;
+use libc::SEEK_CUR;
 use libc::STDERR_FILENO;
 use watch::Watch;
 
@@ -19,6 +20,8 @@ enum Taken {
 // else knows.
 pub struct Source {
     fd: i32,
+    // a descriptor whose place tells what a pipe has handed over; its own where it has places
+    meter: i32,
     // bytes handed over so far
     total: u64,
     // and watched
@@ -44,8 +47,45 @@ fn say_endless(path: &[u8]) {
     io::write_all(STDERR_FILENO, b": has no end\n");
 }
 
-// The bytes that stand at a place of the file, so that an older copy of a source is handed the same bytes again; a pipe has no places, and hands over the next.
-fn read_at(fd: i32, place: u64, buf: &mut [u8]) -> isize
+// A pipe has no places to read at.
+fn has_places(fd: i32) -> bool {
+    let mut none = [0; 1];
+    libc::pread(fd, &mut none[..0], 0) >= 0 || os::errno() != ESPIPE
+}
+
+// What tells how far a source has come that has no places: the system keeps it, so that no copy of the source takes it back. Below zero where there is none,
+// and that was said.
+fn meter(fd: i32, path: &[u8]) -> i32 {
+    if has_places(fd) {
+        return fd;
+    }
+    // every program has this one, and it takes any place; it is never read
+    let kept = b"/proc/self/mem";
+    let meter = os::open_read(kept);
+    if meter < 0 {
+        io::write_all(STDERR_FILENO, path);
+        io::write_all(STDERR_FILENO, b": no place is kept for it, ");
+        os::fail(kept);
+    }
+    meter
+}
+
+// A pipe hands over each byte once: to the source that counts all before it, and to no older copy of that source.
+fn read_next(fd: i32, meter: i32, place: u64, buf: &mut [u8]) -> isize
+    requires { ⌜ place < mostHanded ⌝ }
+{
+    if libc::lseek(meter, 0, SEEK_CUR) != place as i64 {
+        return -1;
+    }
+    let got = libc::read(fd, buf);
+    if got > 0 {
+        libc::lseek(meter, got as i64, SEEK_CUR);
+    }
+    got
+}
+
+// The bytes that stand at a place of the file, so that an older copy of a source is handed the same bytes again.
+fn read_at(fd: i32, meter: i32, place: u64, buf: &mut [u8]) -> isize
     requires { ⌜ place < mostHanded ⌝ }
 {
     let got = libc::pread(fd, buf, place as i64);
@@ -53,19 +93,19 @@ fn read_at(fd: i32, place: u64, buf: &mut [u8]) -> isize
         return got;
     }
     if os::errno() == ESPIPE {
-        return libc::read(fd, buf);
+        return read_next(fd, meter, place, buf);
     }
     got
 }
 
 // Reads on from a place until the buffer is full or the file ends.
-fn read_into(fd: i32, from: u64, path: &[u8], buf: &mut [u8]) -> Taken
+fn read_into(fd: i32, meter: i32, from: u64, path: &[u8], buf: &mut [u8]) -> Taken
     requires { ⌜ from + length (now buf) ≤ mostHanded ⌝ }
     ensures { λ r. ⌜ Counted r (length (now (buf .exit))) ⌝ }
 {
     let mut done: usize = 0;
     while done < buf.len() {
-        let got = read_at(fd, from + done as u64, &mut buf[done..]);
+        let got = read_at(fd, meter, from + done as u64, &mut buf[done..]);
         if got < 0 {
             os::fail(path);
             return Taken::Failed;
@@ -94,8 +134,14 @@ impl Source {
             os::fail(path);
             return Readable::Failed;
         }
+        let meter = meter(fd, path);
+        if meter < 0 {
+            libc::close(fd);
+            return Readable::Failed;
+        }
         Readable::At(Source {
             fd,
+            meter,
             total: 0,
             watch: Watch::at(Source::WATCHED),
             ended: false,
@@ -121,7 +167,7 @@ impl Source {
             self.close();
             return Filled::Failed;
         }
-        let taken = read_into(self.fd, self.total, path, buf);
+        let taken = read_into(self.fd, self.meter, self.total, path, buf);
         let Taken::Bytes(n) = taken else {
             self.close();
             return Filled::Failed;
@@ -131,6 +177,7 @@ impl Source {
         let total = self.total + n as u64;
         let after = Source {
             fd: self.fd,
+            meter: self.meter,
             total,
             watch,
             ended: n < buf.len(),
@@ -155,6 +202,9 @@ impl Source {
     pub fn close(self) -> u64
         ensures { λ r. ⌜ r ≡ handedBy self ⌝ }
     {
+        if self.meter != self.fd {
+            libc::close(self.meter);
+        }
         libc::close(self.fd);
         self.total
     }

@@ -7,10 +7,10 @@ use Rattle.files.proofs.taking.read_into.Statement.{statement}
 use Rattle.files.proofs.taking.read_into.Tie as tie
 
 abbrev Inv-loop : tie.InvT-loop
-Inv-loop fd from path buf₀ done₀ buf done = (from + length buf ≤ mostHanded) × (done ≤ length buf) × (length buf ≡ length buf₀)
+Inv-loop fd meter from path buf₀ done₀ buf done = (from + length buf ≤ mostHanded) × (done ≤ length buf) × (length buf ≡ length buf₀)
 
 abbrev μ-loop : tie.MeasureT-loop
-μ-loop fd from path buf₀ done₀ buf done = length buf - done
+μ-loop fd meter from path buf₀ done₀ buf done = length buf - done
 
 pub read-into-spec : {M : Type 1} → statement M
 read-into-spec =
