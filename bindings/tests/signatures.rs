@@ -16,7 +16,7 @@ const SHARED: [(&str, &str); 6] = [
     ("RECORD", "Session::RECORD"),
     ("FILE_LIMIT", "Session::FILE_LIMIT"),
     ("TRAY_RECORD", "Tray::RECORD"),
-    ("TRAY_ROOM", "State::MOST * Tray::RECORD"),
+    ("TRAY_ROOM", "Record::MOST * Tray::RECORD"),
     ("ENTITIES", "Session::ROSTER"),
     ("LISTING", "Listing::ROOM"),
 ];
@@ -71,7 +71,7 @@ fn sources(name: &str) -> String {
 
 fn crates_constants() -> Constants {
     let crates = [
-        "paper", "state", "reading", "tray", "desk", "listing", "export",
+        "paper", "field", "reading", "tray", "desk", "listing", "export",
     ];
     rust_constants(&crates.map(sources).concat())
 }

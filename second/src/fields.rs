@@ -1,6 +1,6 @@
 //! What the positions of a record may hold.
 
-use crate::rules::Currency;
+use crate::currency::Currency;
 
 /// Positions as the standards print them: from 1, both ends included.
 pub fn field(record: &[u8], from: usize, to: usize) -> &[u8] {

@@ -2,6 +2,7 @@
 
 pub mod building;
 pub mod controls;
+pub mod currency;
 pub mod day;
 pub mod extract;
 pub mod fields;
@@ -20,10 +21,11 @@ pub mod tray;
 pub mod writing;
 
 pub use building::build;
+pub use currency::Currency;
 pub use listing::listing;
 pub use reading::read;
 pub use refusal::Refusal;
-pub use rules::{Currency, Rules};
+pub use rules::Rules;
 pub use session::{Cell, Session};
 pub use stripping::strip;
 pub use writing::Written;

@@ -1,23 +1,8 @@
 //! What a reading takes from its session: date, currency and roster.
 
+use crate::currency::Currency;
 use crate::fields::Entity;
 use crate::refusal::{require, NOT_ON_ROSTER, OTHER_CURRENCY};
-
-#[derive(Clone, Copy, Debug, PartialEq, Eq)]
-pub enum Currency {
-    Pesos,
-    Dollars,
-}
-
-impl Currency {
-    /// What entity fields of this currency add to the entity's number.
-    pub fn added(self) -> u64 {
-        match self {
-            Currency::Pesos => 0,
-            Currency::Dollars => 500,
-        }
-    }
-}
 
 #[derive(Clone, Debug, PartialEq, Eq)]
 pub struct Rules {

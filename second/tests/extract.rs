@@ -3,9 +3,7 @@
 mod common;
 
 use common::*;
-use second::generate::extract::generate_extract;
-use second::generate::meant::{extract_length, extract_of};
-use second::{Currency, Refusal, Session};
+use second::{Currency, Session};
 
 const FOR_402: [&str; 5] = [
     "101 040200000 000000010240229    A094101BANCO 401              CAMARA COMPENSADORA    REFER 01",
@@ -56,58 +54,36 @@ fn four() -> Session {
     opened(Currency::Pesos, &[401, 402, 403, 404])
 }
 
-/// Bytes that no extract holds, each unlike its neighbours.
-fn lent(length: usize) -> Vec<u8> {
-    (0..length).map(|index| 128 + (index % 127) as u8).collect()
+fn gives(session: &Session, entity: u64, file: &[u8], expected: &[u8]) {
+    lending::writes(expected, |out| session.extract(entity, file, out));
 }
 
-fn lines(bytes: &[u8]) -> Vec<String> {
-    let records = bytes.chunks(94);
-    records
-        .map(|record| String::from_utf8_lossy(record).into_owned())
-        .collect()
-}
-
-/// The extract in a buffer of its own length, of one byte more and of a thousand more.
-fn gives(session: &Session, entity: u64, file: &[u8], expected: &[&str]) {
-    let length = 94 * expected.len();
-    for more in [0, 1, 1_000] {
-        let before = lent(length + more);
-        let mut out = before.clone();
-        assert_eq!(session.extract(entity, file, &mut out), Ok(length));
-        assert_eq!(lines(&out[..length]), expected);
-        assert_eq!(out[length..], before[length..], "the rest stays");
-    }
-}
-
-/// The refusal leaves the buffer as it was.
 fn refuses(session: &Session, entity: u64, file: &[u8], room: usize, number: u16, place: usize) {
-    let before = lent(room);
-    let mut out = before.clone();
-    let refusal = Refusal { number, place };
-    assert_eq!(session.extract(entity, file, &mut out), Err(refusal));
-    assert_eq!(out, before);
+    let job = |out: &mut [u8]| session.extract(entity, file, out);
+    lending::refuses(room, number, place, job);
 }
 
 #[test]
 fn case_l_for_402_and_403() {
     let file = named_listing().concat();
-    gives(&four(), 402, &file, &FOR_402);
-    gives(&four(), 403, &file, &FOR_403);
+    gives(&four(), 402, &file, FOR_402.concat().as_bytes());
+    gives(&four(), 403, &file, FOR_403.concat().as_bytes());
 }
 
 /// The second batch becomes the first, and its additional comes along.
 #[test]
 fn case_l_for_401() {
-    gives(&four(), 401, &named_listing().concat(), &FOR_401);
+    let file = named_listing().concat();
+    gives(&four(), 401, &file, FOR_401.concat().as_bytes());
 }
 
 #[test]
 fn nothing_for_404() {
-    gives(&four(), 404, &named_listing().concat(), &FOR_404);
-    let zeros = "000000000001000000000000000000000000000000000000000000";
-    let file = [named_listing()[0], file_control(zeros)].concat();
-    gives(&four(), 404, &file, &FOR_404);
+    let expected = FOR_404.concat();
+    gives(&four(), 404, &named_listing().concat(), expected.as_bytes());
+    let mut file = empty_file("04010001");
+    file[..94].copy_from_slice(&named_listing()[0]);
+    gives(&four(), 404, &file, expected.as_bytes());
 }
 
 /// What stood in free positions of controls, and in batch numbers, is not handed on.
@@ -117,11 +93,8 @@ fn controls_are_blank_where_they_are_free() {
     for place in [4, 8] {
         put(&mut records[place], 55, "FREE POSITIONS 55 TO 79..");
     }
-    put(
-        &mut records[9],
-        56,
-        "FREE POSITIONS 56 TO 94................",
-    );
+    let filled = "FREE POSITIONS 56 TO 94................";
+    put(&mut records[9], 56, filled);
     for place in [1, 4] {
         put(&mut records[place], 88, "0000017");
     }
@@ -129,8 +102,8 @@ fn controls_are_blank_where_they_are_free() {
         put(&mut records[place], 88, "9999999");
     }
     let file = records.concat();
-    gives(&four(), 402, &file, &FOR_402);
-    gives(&four(), 401, &file, &FOR_401);
+    gives(&four(), 402, &file, FOR_402.concat().as_bytes());
+    gives(&four(), 401, &file, FOR_401.concat().as_bytes());
 }
 
 /// Free positions of batch headers and additionals come along unchanged.
@@ -140,14 +113,12 @@ fn headers_and_additionals_keep_their_free_positions() {
     put(&mut records[5], 21, "DISCRETIONARY");
     put(&mut records[5], 76, "XYZ");
     put(&mut records[7], 4, "CONCEPT");
-    let mut out = lent(940);
-    let length = four().extract(401, &records.concat(), &mut out);
-    assert_eq!(length, Ok(6 * 94));
     let mut expected = FOR_401.map(String::from);
     expected[1].replace_range(20..33, "DISCRETIONARY");
     expected[1].replace_range(75..78, "XYZ");
     expected[3].replace_range(3..10, "CONCEPT");
-    assert_eq!(lines(&out[..6 * 94]), expected);
+    let expected = expected.concat();
+    gives(&four(), 401, &records.concat(), expected.as_bytes());
 }
 
 /// Two batches to 402 at three branches, the second from itself, and a batch between them to 403 alone.
@@ -192,62 +163,41 @@ fn every_branch_and_only_batches_with_a_record() {
         batch_control(sums[1], "04020000", "0000002"),
         file_control("000002000001000000030012070000000000010101000000000000"),
     ];
-    let mut out = lent(9 * 94);
-    assert_eq!(four().extract(402, &records.concat(), &mut out), Ok(9 * 94));
-    assert_eq!(lines(&out), lines(&expected.concat()));
+    gives(&four(), 402, &records.concat(), &expected.concat());
 }
 
 #[test]
 fn dollars_add_500() {
-    let single = Single {
-        origin: "05020001",
-        identifier: "A",
-        sender: "05020001",
-        code: "36",
-        destination: "09990001",
-        amount: 9_999_999_999,
-    };
-    let session = opened(Currency::Dollars, &[2, 499]);
-    let mut out = lent(6 * 94);
-    let length = session.extract(499, &single.file(), &mut out);
-    assert_eq!(length, Ok(6 * 94));
-    let mut expected = single.records();
-    put(&mut expected[0], 4, " 099900000 000000010");
-    assert_eq!(lines(&out), lines(&expected.concat()));
-    refuses(&session, 999, &single.file(), 940, 208, 0);
-    refuses(
-        &opened(Currency::Pesos, &[2, 499]),
-        499,
-        &single.file(),
-        940,
-        203,
-        0,
-    );
+    let (session, file) = (opened(Currency::Dollars, &[2, 499]), IN_DOLLARS.file());
+    let mut expected = file.clone();
+    put(&mut expected, 4, " 099900000 000000010");
+    gives(&session, 499, &file, &expected);
+    refuses(&session, 999, &file, 940, 208, 0);
+    let in_pesos = opened(Currency::Pesos, &[2, 499]);
+    refuses(&in_pesos, 499, &file, 940, 203, 0);
 }
 
 /// 1,001 records to 09999999, among others: the total keeps its last ten digits.
 #[test]
 fn totals_keep_their_last_ten_digits() {
     let mut records = vec![header("05010001"), batch_header("05010001", "0000003")];
-    for sequence in 1..=1_001 {
-        let counter = format!("05010001{sequence:07}");
-        records.push(individual("37", "09999999", "0000000001", "000", &counter));
-    }
+    records.extend(orders("05010001", "09999999", 1_001));
     let other = individual("37", "05010001", "0000000001", "000", "050100010001002");
     records.push(other);
     let sums = "0010020015009000000000001002000000000000";
     records.push(batch_control(sums, "05010001", "0000003"));
-    let sums = "000001000101000010020015009000000000001002000000000000";
-    records.push(file_control(sums));
+    records.push(file_control(&format!("00000100010100{sums}")));
     let session = opened(Currency::Dollars, &[1, 499]);
-    let mut out = lent(1_005 * 94);
+    let mut out = lending::lent(1_005 * 94);
     let length = session.extract(499, &records.concat(), &mut out);
     assert_eq!(length, Ok(1_005 * 94));
     let sums = "0010010009998999000000001001000000000000";
-    let control = batch_control(sums, "05010001", "0000001");
-    assert_eq!(lines(&out[1_003 * 94..1_004 * 94]), lines(&control));
-    let sums = "000001000101000010010009998999000000001001000000000000";
-    assert_eq!(lines(&out[1_004 * 94..]), lines(&file_control(sums)));
+    let controls = [
+        batch_control(sums, "05010001", "0000001"),
+        file_control(&format!("00000100010100{sums}")),
+    ];
+    let written = lending::lines(&out[1_003 * 94..]);
+    assert_eq!(written, lending::lines(&controls.concat()));
 }
 
 #[test]
@@ -263,20 +213,12 @@ fn a_buffer_too_short_stays_as_it_is() {
 #[test]
 fn numbers_of_nobody() {
     let file = named_listing().concat();
-    let strange = [
-        0,
-        500,
-        902,
-        999,
-        402 + (1 << 16),
-        402 + (1 << 32),
-        402 + (1 << 63),
-        u64::MAX,
-    ];
+    let cut = [16, 32, 63].map(|bits| 402 + (1 << bits));
+    let strange = [0, 500, 902, 999, u64::MAX];
     // With everybody listed, only the number itself can be at fault.
     let everybody: Vec<u64> = (1..=499).collect();
     for session in [four(), opened(Currency::Pesos, &everybody)] {
-        for entity in strange {
+        for entity in strange.into_iter().chain(cut) {
             refuses(&session, entity, &file, 940, 208, 0);
         }
     }
@@ -290,8 +232,8 @@ fn ends_of_the_roster() {
     let file = named_listing().concat();
     let session = opened(Currency::Pesos, &[1, 499, 401, 402, 403]);
     for (entity, digits) in [(1, "0001"), (499, "0499")] {
-        let header = FOR_404[0].replacen("0404", digits, 1);
-        gives(&session, entity, &file, &[&header, FOR_404[1]]);
+        let expected = FOR_404.concat().replacen("0404", digits, 1);
+        gives(&session, entity, &file, expected.as_bytes());
     }
 }
 
@@ -327,36 +269,5 @@ fn after_a_refused_opening_nobody_is_listed() {
         let (answer, session) = Session::open(date, Currency::Pesos, &entities);
         assert!(answer.is_err());
         refuses(&session, 402, &records.concat(), 940, 208, 0);
-    }
-}
-
-/// The generator's meaning, and its own way of making an extract from drafts.
-#[test]
-fn generated_extracts_are_those_meant() {
-    for seed in 1..=2 {
-        for number in 0..12_000 {
-            let case = generate_extract(seed, number);
-            let left = case.run();
-            let name = format!("seed {seed}, extract {number}, {}", case.family);
-            assert_eq!(left.answer, case.meant.unwrap_or(left.answer), "{name}");
-            let Ok(length) = left.answer else {
-                assert!(left.buffer == case.buffer, "{name}");
-                continue;
-            };
-            let (rules, entity, file) = (&case.rules, case.entity, &case.file);
-            assert_eq!(length, extract_length(rules, entity, file), "{name}");
-            let expected = extract_of(rules, entity, file);
-            assert_eq!(lines(&left.buffer[..length]), lines(&expected), "{name}");
-            assert!(left.buffer[length..] == case.buffer[length..], "{name}");
-        }
-    }
-}
-
-#[test]
-fn an_extract_depends_on_seed_and_number_only() {
-    for number in [40, 1_000] {
-        let (one, other) = (generate_extract(7, number), generate_extract(7, number));
-        assert!(one.file == other.file && one.buffer == other.buffer);
-        assert_eq!(one.entity, other.entity);
     }
 }

@@ -6,6 +6,7 @@ use common::*;
 use second::generate::listing::generate_listing;
 use second::listing as printed;
 
+const NOBODY: &str = "ENTITY SENT RECEIVED NET\nSUM 0 0 0\n";
 const TOO_LONG: &str = "REFUSED 201 AT 0\n";
 
 fn text(input: &[u8]) -> String {
@@ -24,10 +25,8 @@ fn case_l_whole() {
 
 #[test]
 fn nobody_sent_anything() {
-    let zeros = "000000000001000000000000000000000000000000000000000000";
     for origin in ["04010001", "05010001"] {
-        let file = [header(origin), file_control(zeros)].concat();
-        assert_eq!(text(&file), "ENTITY SENT RECEIVED NET\nSUM 0 0 0\n");
+        assert_eq!(text(&empty_file(origin)), NOBODY);
     }
 }
 
@@ -64,14 +63,12 @@ fn one_that_only_sends_to_itself_is_printed() {
 
 #[test]
 fn refusals_are_one_line() {
-    let mut records = listing();
-    put(&mut records[2], 30, "0000000000");
-    assert_eq!(text(&records.concat()), "REFUSED 19 AT 2\n");
+    let file = changed(2, 30, "0000000000").concat();
+    assert_eq!(text(&file), "REFUSED 19 AT 2\n");
     let file = listing().concat();
     assert_eq!(text(&file[..188]), "REFUSED 17 AT 2\n");
-    let mut records = listing();
-    put(&mut records[6], 4, "0901");
-    assert_eq!(text(&records.concat()), "REFUSED 203 AT 6\n");
+    let file = changed(6, 4, "0901").concat();
+    assert_eq!(text(&file), "REFUSED 203 AT 6\n");
 }
 
 #[test]
@@ -94,21 +91,18 @@ fn the_longest_input() {
                     402 0 692 -692\n\
                     SUM 692 692 0\n";
     // 692 times 4020001 is 2781840692.
-    let file = orders(692, "0006922781840692000000000692000000000000");
+    let file = batch_of(692, "0006922781840692000000000692000000000000");
     assert_eq!(file.len(), 65_424);
     assert_eq!(text(&file), expected);
     // 693 times 4020001 is 2785860693: a good file, but one record too long.
-    let file = orders(693, "0006932785860693000000000693000000000000");
+    let file = batch_of(693, "0006932785860693000000000693000000000000");
     assert_eq!(file.len(), 65_518);
     assert_eq!(text(&file), TOO_LONG);
 }
 
-fn orders(count: usize, sums: &str) -> Vec<u8> {
+fn batch_of(count: usize, sums: &str) -> Vec<u8> {
     let mut records = vec![header("04010001"), batch_header("04010001", "0000001")];
-    for sequence in 1..=count {
-        let counter = format!("04010001{sequence:07}");
-        records.push(individual("37", "04020001", "0000000001", "000", &counter));
-    }
+    records.extend(orders("04010001", "04020001", count));
     records.push(batch_control(sums, "04010001", "0000001"));
     records.push(file_control(&format!("00000100007000{sums}")));
     records.concat()
@@ -116,14 +110,13 @@ fn orders(count: usize, sums: &str) -> Vec<u8> {
 
 #[test]
 fn the_date_is_the_headers() {
-    let zeros = "000000000001000000000000000000000000000000000000000000";
     let dated = |date: &str| {
-        let mut header = header("04010001");
-        put(&mut header, 24, date);
-        text(&[header, file_control(zeros)].concat())
+        let mut file = empty_file("04010001");
+        put(&mut file, 24, date);
+        text(&file)
     };
     for date in ["000101", "000229", "991231", "230228"] {
-        assert_eq!(dated(date), "ENTITY SENT RECEIVED NET\nSUM 0 0 0\n");
+        assert_eq!(dated(date), NOBODY);
     }
     for date in ["230229", "000000", "      ", "24022 ", "A00101", "001301"] {
         assert_eq!(dated(date), "REFUSED 75 AT 0\n", "{date}");
@@ -132,11 +125,7 @@ fn the_date_is_the_headers() {
 
 #[test]
 fn the_currency_is_the_origins() {
-    let with_origin = |origin: &str| {
-        let mut records = listing();
-        put(&mut records[0], 15, origin);
-        text(&records.concat())
-    };
+    let with_origin = |origin: &str| text(&changed(0, 15, origin).concat());
     for origin in ["0001", "0499"] {
         assert!(with_origin(origin).ends_with("\nSUM 3 3 0\n"));
     }

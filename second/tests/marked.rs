@@ -3,13 +3,17 @@
 mod common;
 
 use common::*;
-use second::{read, Currency};
+use second::{read, Currency, Refusal, Rules};
+
+/// Case L with one change, read in pesos.
+fn says(place: usize, from: usize, text: &str) -> Result<usize, Refusal> {
+    answer(&rules(Currency::Pesos), &changed(place, from, text))
+}
 
 #[test]
 fn case_1_header_and_control_only() {
-    let zeros = "000000000001000000000000000000000000000000000000000000";
-    let records = [header("04010001"), file_control(zeros)];
-    assert_eq!(answer(&rules(Currency::Pesos), &records), Ok(2));
+    let file = empty_file("04010001");
+    assert_eq!(read(&rules(Currency::Pesos), &file), Ok(2));
 }
 
 #[test]
@@ -19,24 +23,19 @@ fn listing_is_accepted() {
 
 #[test]
 fn case_4_amount_of_zeros() {
-    let mut records = listing();
-    put(&mut records[2], 30, "0000000000");
-    assert_eq!(answer(&rules(Currency::Pesos), &records), refused(19, 2));
+    assert_eq!(says(2, 30, "0000000000"), refused(19, 2));
 }
 
 #[test]
 fn case_5_amount_with_a_blank() {
     for blanked in 30..=39 {
-        let mut records = listing();
-        put(&mut records[2], blanked, " ");
-        assert_eq!(answer(&rules(Currency::Pesos), &records), refused(19, 2));
+        assert_eq!(says(2, blanked, " "), refused(19, 2));
     }
 }
 
 #[test]
 fn case_6_amount_of_one_cent() {
-    let mut records = listing();
-    put(&mut records[2], 30, "0000000001");
+    let mut records = changed(2, 30, "0000000001");
     put(&mut records[4], 21, "000000040001");
     put(&mut records[9], 32, "000000040001");
     assert_eq!(answer(&rules(Currency::Pesos), &records), Ok(10));
@@ -44,26 +43,17 @@ fn case_6_amount_of_one_cent() {
 
 #[test]
 fn case_7_dates() {
-    for (date, number) in [("000229", 229), ("240229", 240_229), ("230229", 230_229)] {
-        let mut records = listing();
-        put(&mut records[0], 24, date);
-        let mut rules = rules(Currency::Pesos);
-        rules.date = number;
-        let expected = if number == 230_229 {
-            refused(75, 0)
-        } else {
-            Ok(10)
+    for (text, date) in [("000229", 229), ("240229", 240_229), ("230229", 230_229)] {
+        let expected = |place| match date {
+            230_229 => refused(75, place),
+            _ => Ok(10),
         };
-        assert_eq!(answer(&rules, &records), expected);
-
-        let mut records = listing();
-        put(&mut records[1], 70, date);
-        let expected = if number == 230_229 {
-            refused(75, 1)
-        } else {
-            Ok(10)
+        let rules = Rules {
+            date,
+            ..rules(Currency::Pesos)
         };
-        assert_eq!(answer(&common::rules(Currency::Pesos), &records), expected);
+        assert_eq!(answer(&rules, &changed(0, 24, text)), expected(0));
+        assert_eq!(says(1, 70, text), expected(1));
     }
 }
 
@@ -85,16 +75,15 @@ fn case_8_characters() {
 
 #[test]
 fn case_9_entities() {
-    let zeros = "000000000001000000000000000000000000000000000000000000";
     for value in 0..10_000 {
-        let records = [header(&format!("{value:04}0001")), file_control(zeros)];
+        let file = empty_file(&format!("{value:04}0001"));
         let (pesos, dollars) = match value {
             1..=499 => (Ok(2), refused(203, 0)),
             501..=999 => (refused(203, 0), Ok(2)),
             _ => (refused(17, 0), refused(17, 0)),
         };
-        assert_eq!(answer(&rules(Currency::Pesos), &records), pesos);
-        assert_eq!(answer(&rules(Currency::Dollars), &records), dollars);
+        assert_eq!(read(&rules(Currency::Pesos), &file), pesos);
+        assert_eq!(read(&rules(Currency::Dollars), &file), dollars);
     }
 }
 
@@ -107,9 +96,7 @@ fn case_10_flag_then_batch_control() {
 
 #[test]
 fn case_11_reversal_with_01() {
-    let mut records = listing();
-    put(&mut records[6], 77, "01");
-    assert_eq!(answer(&rules(Currency::Pesos), &records), refused(87, 6));
+    assert_eq!(says(6, 77, "01"), refused(87, 6));
 }
 
 #[test]
@@ -121,37 +108,25 @@ fn case_12_empty_batch() {
 
 #[test]
 fn lengths() {
-    let file = listing().concat();
+    let (rules, file) = (rules(Currency::Pesos), listing().concat());
     for length in [0, 1, 93, 94, 187, 189, 939] {
-        assert_eq!(
-            read(&rules(Currency::Pesos), &file[..length]),
-            refused(201, 0)
-        );
+        assert_eq!(read(&rules, &file[..length]), refused(201, 0));
     }
-    assert_eq!(read(&rules(Currency::Pesos), &file[..188]), refused(17, 2));
+    assert_eq!(read(&rules, &file[..188]), refused(17, 2));
     let blanks = vec![b' '; 940_094];
-    assert_eq!(read(&rules(Currency::Pesos), &blanks), refused(201, 0));
-    assert_eq!(
-        read(&rules(Currency::Pesos), &blanks[..940_000]),
-        refused(17, 0)
-    );
+    assert_eq!(read(&rules, &blanks), refused(201, 0));
+    assert_eq!(read(&rules, &blanks[..940_000]), refused(17, 0));
 }
 
 #[test]
 fn control_total_keeps_its_last_ten_digits() {
+    let rules = rules(Currency::Dollars);
     let mut records = vec![header("05010001"), batch_header("05010001", "0000001")];
-    for sequence in 1..=1_001 {
-        let counter = format!("05010001{sequence:07}");
-        records.push(individual("37", "09999999", "0000000001", "000", &counter));
-    }
+    records.extend(orders("05010001", "09999999", 1_001));
     let sums = "0010010009998999000000001001000000000000";
     records.push(batch_control(sums, "05010001", "0000001"));
-    let sums = "000001000101000010010009998999000000001001000000000000";
-    records.push(file_control(sums));
-    assert_eq!(answer(&rules(Currency::Dollars), &records), Ok(1_005));
+    records.push(file_control(&format!("00000100010100{sums}")));
+    assert_eq!(answer(&rules, &records), Ok(1_005));
     put(&mut records[1_003], 11, "1009998999");
-    assert_eq!(
-        answer(&rules(Currency::Dollars), &records),
-        refused(17, 1_002 + 1)
-    );
+    assert_eq!(answer(&rules, &records), refused(17, 1_003));
 }

@@ -68,23 +68,15 @@ fn opening_on_each_kind_of_date() {
         assert_eq!(session.rules().date, date);
         assert_eq!(session.rules().currency, Currency::Dollars);
     }
-    let bad = [
-        0,
-        1,
-        100,
-        230_229,
-        431,
-        240_230,
-        1_301,
-        240_100,
-        999_999,
+    let unspelled = [
         1_000_101,
         1_240_229,
         20_240_229,
-        240_229 + (1 << 32),
+        (1 << 32) + 240_229,
         u64::MAX,
     ];
-    for date in bad {
+    let spelled = [0, 1, 100, 230_229, 431, 240_230, 1_301, 240_100, 999_999];
+    for date in spelled.into_iter().chain(unspelled) {
         let (answer, session) = Session::open(date, Currency::Dollars, &THREE);
         assert_eq!(answer, no(75, 0), "{date}");
         is_of_refused_opening(session);
@@ -116,11 +108,11 @@ fn is_of_refused_opening(mut session: Session) {
     assert_eq!(session.rules().roster, [false; 500]);
     assert_eq!(*session.cells(), [Cell::default(); 500]);
     refuses(&mut session, &ORDER.file(), 75, 0);
-    let mut records = ORDER.records();
-    put(&mut records[0], 24, "000101");
-    refuses(&mut session, &records.concat(), 204, 0);
-    put(&mut records[0], 15, "0901");
-    refuses(&mut session, &records.concat(), 203, 0);
+    let mut file = ORDER.file();
+    put(&mut file, 24, "000101");
+    refuses(&mut session, &file, 204, 0);
+    put(&mut file, 15, "0901");
+    refuses(&mut session, &file, 203, 0);
 }
 
 #[test]
@@ -146,8 +138,7 @@ fn case_3_presented_twice() {
 
 #[test]
 fn header_and_control_only_uses_up_its_identifier() {
-    let zeros = "000000000001000000000000000000000000000000000000000000";
-    let file = [header("04010001"), file_control(zeros)].concat();
+    let file = empty_file("04010001");
     let mut session = opened(&THREE);
     assert_eq!(session.present(&file), Ok(()));
     assert_eq!(*session.cells(), [Cell::default(); 500]);
@@ -185,12 +176,12 @@ fn an_origin_has_36_identifiers() {
     let mut session = opened(&THREE);
     let identifiers: Vec<String> = ('0'..='9').chain('A'..='Z').map(String::from).collect();
     assert_eq!(identifiers.len(), 36);
-    let file = |identifier: &str| {
-        Single {
+    let file = |identifier| {
+        let single = Single {
             identifier,
             ..ORDER
-        }
-        .file()
+        };
+        single.file()
     };
     for identifier in &identifiers {
         assert_eq!(session.present(&file(identifier)), Ok(()));
@@ -208,10 +199,9 @@ fn an_origin_has_36_identifiers() {
 fn a_refused_file_uses_up_no_identifier() {
     let mut session = opened(&THREE);
     let file = listing().concat();
-    let mut damaged = listing();
     // The last digit of all sums: everything else was read and found good.
-    put(&mut damaged[9], 55, "1");
-    refuses(&mut session, &damaged.concat(), 17, 9);
+    let damaged = changed(9, 55, "1").concat();
+    refuses(&mut session, &damaged, 17, 9);
     refuses(&mut session, &file[..9 * 94], 17, 9);
     refuses(&mut session, &file[..939], 201, 0);
     assert_eq!(*session.cells(), [Cell::default(); 500]);
@@ -223,12 +213,10 @@ fn a_refused_file_uses_up_no_identifier() {
 fn the_readings_refusals_come_before_209() {
     let mut session = opened(&THREE);
     assert_eq!(session.present(&listing().concat()), Ok(()));
-    let mut damaged = listing();
-    put(&mut damaged[2], 30, "0000000000");
-    refuses(&mut session, &damaged.concat(), 19, 2);
-    let mut stranger = listing();
-    put(&mut stranger[3], 4, "0404");
-    refuses(&mut session, &stranger.concat(), 204, 3);
+    let damaged = changed(2, 30, "0000000000").concat();
+    refuses(&mut session, &damaged, 19, 2);
+    let stranger = changed(3, 4, "0404").concat();
+    refuses(&mut session, &stranger, 204, 3);
 }
 
 #[test]
@@ -278,9 +266,9 @@ fn dollars_stand_in_the_same_cells() {
 #[test]
 fn wrong_date_wrong_currency_and_strangers() {
     let mut session = opened(&THREE);
-    let mut records = ORDER.records();
-    put(&mut records[0], 24, "240228");
-    refuses(&mut session, &records.concat(), 75, 0);
+    let mut file = ORDER.file();
+    put(&mut file, 24, "240228");
+    refuses(&mut session, &file, 75, 0);
     let origin = "09010001";
     refuses(&mut session, &Single { origin, ..ORDER }.file(), 203, 0);
     let origin = "04000001";

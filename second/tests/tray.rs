@@ -3,7 +3,7 @@
 mod common;
 
 use common::trays::*;
-use common::{rules, Single};
+use common::{rules, IN_DOLLARS};
 use second::{read, strip, Currency};
 
 #[test]
@@ -28,28 +28,14 @@ fn an_empty_tray() {
 #[test]
 fn other_numbers_are_lost_in_the_tray() {
     let mut records = file();
-    for (place, number) in [
-        (1, "0000007"),
-        (4, "0000007"),
-        (5, "0000000"),
-        (8, "0000000"),
-    ] {
-        put_text(&mut records[place], 87, number);
-    }
-    for (place, number) in [
-        (2, "0000005"),
-        (3, "0000009"),
-        (6, "9999999"),
-        (7, "9999999"),
-    ] {
-        put_text(&mut records[place], 87, number);
+    let batches = [(1, 7), (4, 7), (5, 0), (8, 0)];
+    let individuals = [(2, 5), (3, 9), (6, 9_999_999), (7, 9_999_999)];
+    for (place, number) in batches.into_iter().chain(individuals) {
+        put_text(&mut records[place], 87, &format!("{number:07}"));
     }
     put_text(&mut records[4], 54, "FREE POSITIONS 55 TO 79..");
-    put_text(
-        &mut records[9],
-        55,
-        "FREE POSITIONS 56 TO 94................",
-    );
+    let filled = "FREE POSITIONS 56 TO 94................";
+    put_text(&mut records[9], 55, filled);
     strips(&listed(), &records.concat(), &tray().concat());
 }
 
@@ -97,24 +83,20 @@ fn lengths_are_207_at_0() {
 
 #[test]
 fn marks_and_kinds_are_207_at_their_record() {
-    for place in 0..6 {
+    for (place, line) in TRAY.iter().enumerate() {
         let strange = [
             "LO6", "LO7", "IN5", "IN7", "AD5", "AD6", "LO1", "IN8", "AD9", "IO6", "LN5", "AO7",
             "OL5", "lo5", "  5", "LO ", "1N6", "AD0", "L06",
         ];
         for name in strange {
-            let mut tray = tray();
-            put_text(&mut tray[place], 0, name);
-            stays(header(), &tray.concat(), 940, 207, place);
+            let tray = tray_with(place, 0, name.as_bytes());
+            stays(header(), &tray, 940, 207, place);
         }
         for index in 0..3 {
-            for byte in 0..=255 {
-                let mut tray = tray();
-                if tray[place][index] == byte {
-                    continue;
-                }
-                tray[place][index] = byte;
-                stays(header(), &tray.concat(), 940, 207, place);
+            let old = line.as_bytes()[index];
+            for byte in (0..=255).filter(|&byte| byte != old) {
+                let tray = tray_with(place, index, &[byte]);
+                stays(header(), &tray, 940, 207, place);
             }
         }
     }
@@ -125,16 +107,14 @@ fn tails_are_207_at_their_record() {
     for place in 0..6 {
         for index in 89..96 {
             for byte in (0..=255).filter(|&byte| byte != b'0') {
-                let mut tray = tray();
-                tray[place][index] = byte;
-                stays(header(), &tray.concat(), 940, 207, place);
+                let tray = tray_with(place, index, &[byte]);
+                stays(header(), &tray, 940, 207, place);
             }
         }
     }
     // Position 87 is no part of the tail: a sender of other digits is for the reading.
-    let mut tray = tray();
-    put_body(&mut tray[1], 87, "2");
-    blanks(&listed(), header(), &tray.concat(), 940, 27, 2);
+    let tray = tray_with(1, 88, b"2");
+    blanks(&listed(), header(), &tray, 940, 27, 2);
 }
 
 #[test]
@@ -144,13 +124,8 @@ fn of_several_faults_of_form_the_first_counts() {
     put_text(&mut tray[2], 95, "1");
     stays(header(), &tray.concat(), 940, 207, 2);
     stays(&header()[1..], &tray.concat(), 940, 207, 0);
-    stays(
-        header(),
-        &[&tray.concat(), b"L".as_slice()].concat(),
-        940,
-        207,
-        0,
-    );
+    tray.push(b"L".to_vec());
+    stays(header(), &tray.concat(), 940, 207, 0);
 }
 
 /// A header of which nothing is good has its form all the same.
@@ -169,58 +144,38 @@ fn a_header_body_is_judged_by_the_reading() {
 fn the_reading_answers_at_its_own_places() {
     let places = [1, 2, 3, 5, 6, 7];
     for (place, in_file) in places.into_iter().enumerate() {
-        let mut tray = tray();
-        put_body(&mut tray[place], 2, "&");
-        blanks(&listed(), header(), &tray.concat(), 940, 17, in_file);
+        let tray = tray_with(place, 3, b"&");
+        blanks(&listed(), header(), &tray, 940, 17, in_file);
     }
-    let with = |place: usize, from: usize, text: &str| {
-        let mut tray = tray();
-        put_body(&mut tray[place], from, text);
-        tray.concat()
-    };
-    blanks(&listed(), header(), &with(0, 70, "250631"), 940, 75, 1);
-    blanks(&listed(), header(), &with(3, 80, "0400"), 940, 204, 5);
-    blanks(&listed(), header(), &with(1, 4, "0902"), 940, 203, 2);
-    blanks(&listed(), header(), &with(1, 4, "040 "), 940, 17, 2);
-    blanks(&listed(), header(), &with(1, 12, "1"), 940, 77, 2);
-    blanks(&listed(), header(), &with(2, 29, " "), 940, 78, 3);
-    for amount in ["0000000000", "         1", "00000A0000"] {
-        blanks(&listed(), header(), &with(4, 30, amount), 940, 19, 6);
+    let changes = [
+        (0, 70, "250631", 75, 1),
+        (3, 80, "0400", 204, 5),
+        (1, 4, "0902", 203, 2),
+        (1, 4, "040 ", 17, 2),
+        (1, 12, "1", 77, 2),
+        (2, 29, " ", 78, 3),
+        (4, 30, "0000000000", 19, 6),
+        (4, 30, "         1", 19, 6),
+        (4, 30, "00000A0000", 19, 6),
+        (1, 40, "               ", 79, 2),
+        (4, 77, "01", 87, 6),
+        (1, 79, "1", 25, 3),
+        (5, 2, "99", 25, 7),
+        (4, 80, "0401", 27, 6),
+    ];
+    for (place, from, text, number, in_file) in changes {
+        // Positions of the body.
+        let tray = tray_with(place, from + 1, text.as_bytes());
+        blanks(&listed(), header(), &tray, 940, number, in_file);
     }
-    blanks(
-        &listed(),
-        header(),
-        &with(1, 40, "               "),
-        940,
-        79,
-        2,
-    );
-    blanks(&listed(), header(), &with(4, 77, "01"), 940, 87, 6);
-    blanks(&listed(), header(), &with(1, 79, "1"), 940, 25, 3);
-    blanks(&listed(), header(), &with(5, 2, "99"), 940, 25, 7);
-    blanks(&listed(), header(), &with(4, 80, "0401"), 940, 27, 6);
 }
 
 #[test]
 fn dollars_add_500() {
-    let single = Single {
-        origin: "05020001",
-        identifier: "A",
-        sender: "05020001",
-        code: "36",
-        destination: "09990001",
-        amount: 9_999_999_999,
-    };
-    let (records, rules) = (single.records(), rules(Currency::Dollars));
+    let (file, rules) = (IN_DOLLARS.file(), rules(Currency::Dollars));
     let mut tray = vec![0; 3 * 96];
-    assert_eq!(strip(&rules, &single.file(), &mut tray), Ok(3 * 96));
-    builds(&rules, &records[0], &tray, &single.file());
-    blanks(
-        &common::rules(Currency::Pesos),
-        &records[0],
-        &tray,
-        6 * 94,
-        203,
-        0,
-    );
+    assert_eq!(strip(&rules, &file, &mut tray), Ok(3 * 96));
+    builds(&rules, &file[..94], &tray, &file);
+    let in_pesos = common::rules(Currency::Pesos);
+    blanks(&in_pesos, &file[..94], &tray, 6 * 94, 203, 0);
 }

@@ -2,6 +2,7 @@
 
 mod common;
 
+use common::lending::lent;
 use common::trays::*;
 use second::{build, read, Currency, Session};
 
@@ -13,14 +14,8 @@ fn orders_that_no_file_has() {
         records.collect::<Vec<_>>().concat()
     };
     let refuses = |places: &[usize], records: usize, number: u16, place: usize| {
-        blanks(
-            &listed(),
-            header(),
-            &of(places),
-            94 * records,
-            number,
-            place,
-        );
+        let (rules, tray) = (listed(), of(places));
+        blanks(&rules, header(), &tray, 94 * records, number, place);
     };
     // LO alone, and LO LO: a 5, then an 8.
     refuses(&[0], 4, 17, 2);
@@ -67,18 +62,10 @@ fn more_than_10000_records_are_201() {
 /// Each LO brings a control with it, and IN and AD none.
 #[test]
 fn controls_count_towards_10000_records() {
-    blanks(
-        &listed(),
-        header(),
-        &repeated(TRAY[0], 4_999),
-        940_000,
-        17,
-        2,
-    );
-    stays(header(), &repeated(TRAY[0], 5_000), 940_000, 201, 0);
-    for line in [TRAY[1], TRAY[5]] {
-        blanks(&listed(), header(), &repeated(line, 9_998), 940_000, 17, 1);
-        stays(header(), &repeated(line, 9_999), 940_000, 201, 0);
+    for (line, most, place) in [(0, 4_999, 2), (1, 9_998, 1), (5, 9_998, 1)] {
+        let [full, too_many] = [most, most + 1].map(|times| repeated(TRAY[line], times));
+        blanks(&listed(), header(), &full, 940_000, 17, place);
+        stays(header(), &too_many, 940_000, 201, 0);
     }
 }
 
@@ -87,10 +74,8 @@ fn amount_sums_of_thirteen_digits_match_no_field() {
     let largest = TRAY[1].replacen("0000012500", "9999999999", 1);
     let orders = |count| [repeated(TRAY[0], 1), repeated(&largest, count)].concat();
     let mut out = lent(104 * 94);
-    assert_eq!(
-        build(&listed(), header(), &orders(100), &mut out),
-        Ok(104 * 94)
-    );
+    let answer = build(&listed(), header(), &orders(100), &mut out);
+    assert_eq!(answer, Ok(104 * 94));
     blanks(&listed(), header(), &orders(101), 105 * 94, 17, 103);
     blanks(&listed(), header(), &orders(9_996), 940_000, 17, 9_998);
     // Each batch within twelve digits, the file not: the file control is at fault.
@@ -102,7 +87,7 @@ fn amount_sums_of_thirteen_digits_match_no_field() {
 #[test]
 fn the_order_of_refusals() {
     let mut bad = tray();
-    put_body(&mut bad[1], 30, "0000000000");
+    put_text(&mut bad[1], 31, "0000000000");
     for room in [0, 1, 93, 188, 939] {
         stays(header(), &tray().concat(), room, 206, 0);
         stays(header(), &bad.concat(), room, 206, 0);

@@ -11,12 +11,11 @@ use Rattle.paper.specs.declared.record.Tally.{Tally}
 use Rattle.paper.specs.Kinds.{kindOf}
 use Rattle.paper.specs.Controls.{zeros}
 use Rattle.paper.specs.Writing.{joined}
-use Rattle.paper.specs.Buffers.{over}
 use Rattle.paper.proofs.Lists.{Sized, joined-append}
-use Rattle.state.specs.Bounds.{Below}
-use Rattle.state.proofs.Bounds.{below-more, below-zeros}
+use Rattle.controls.specs.Bounds.{Below}
+use Rattle.controls.proofs.Bounds.{below-more, below-zeros}
 use Rattle.writing.proofs.Laying.{Wrote, start, on, whole, kept, part-laid}
-use Rattle.batches.specs.Blocks.{ownAt, ownOf, withRecord, tallied}
+use Rattle.batches.specs.Blocks.{ownAt, ownOf, withRecord, tallied, Batched}
 use Rattle.batches.proofs.Own.{own-one, own-none, tallied-snoc, tallied-below}
 
 pub sized-take : (n : ℕ) (rs : List (List ℕ)) → Sized 94 rs → Sized 94 (take n rs)
@@ -48,7 +47,7 @@ pub none-copied : (rs : List (List ℕ)) (before : List ℕ) → Copied rs befor
 unfolding tallied joined
 none-copied rs before = record { inside = omega arith; own = refl; tally = refl; wrote = start (omega arith) }
 
-module _ (rs : List (List ℕ)) (before : List ℕ) (sized : Sized 94 rs) (i : ℕ) (t : Tally) (after : List ℕ) (c : Copied rs before i t after) where
+module _ {rs : List (List ℕ)} (sized : Sized 94 rs) {before : List ℕ} {i : ℕ} {t : Tally} {after : List ℕ} (c : Copied rs before i t after) where
   so-far : length (take i rs) ≡ i
   so-far = length-take-le i rs (c .inside)
 
@@ -56,7 +55,7 @@ module _ (rs : List (List ℕ)) (before : List ℕ) (sized : Sized 94 rs) (i : �
   counted-below = rw (c .tally) (below-more _ (omega (arith, so-far)) (tallied-below zeros (take i rs) (sized-take i rs sized) (below-zeros 0)))
 
   -- there is one more
-  module _ (r : List ℕ) (here : drop i rs ≡ r ∷ drop (i + 1) rs) (h : ownAt (drop i rs) ≡ true) where
+  module _ {r : List ℕ} (here : drop i rs ≡ r ∷ drop (i + 1) rs) (h : ownAt (drop i rs) ≡ true) where
     own-step : ownOf (drop i rs) ≡ r ∷ ownOf (drop (i + 1) rs)
     own-step = ap ownOf here ∙ own-one r (drop (i + 1) rs) (ap ownAt (sym here) ∙ h)
 
@@ -83,7 +82,7 @@ module _ (rs : List (List ℕ)) (before : List ℕ) (sized : Sized 94 rs) (i : �
           wrote = rw (one-more, ← j) (on (c .wrote) r (omega (arith, l), f ∙ part-laid (i * 94) (i * 94 + 94) r after (omega (arith, l))));
         }
 
-  pub all-copied : ownAt (drop i rs) ≡ false → (after ≡ over (joined (ownOf rs)) before) × (i ≡ length (ownOf rs)) × (t ≡ tallied zeros (ownOf rs))
+  pub all-copied : ownAt (drop i rs) ≡ false → Batched (ownOf rs) (ownOf rs) before after i t
   all-copied h =
       let e : ownOf rs ≡ take i rs = c .own ∙ rw (own-none (drop i rs) h) (append-nil (take i rs)) in
-      (whole (c .wrote) .1 ∙ rw e, rw e (sym so-far), rw e (c .tally))
+      record { bytes = whole (c .wrote) .1 ∙ rw e; count = rw e (sym so-far); tally = rw e (c .tally) }

@@ -13,8 +13,8 @@ use Rattle.paper.specs.declared.record.Tally.{Tally}
 use Rattle.paper.specs.Kinds.{kindOf}
 use Rattle.paper.proofs.Grouping.{Is}
 use Rattle.paper.proofs.Lists.{Sized}
-use Rattle.state.specs.Bounds.{Below}
-use Rattle.state.proofs.Bounds.{below-more, below-additional, below-individual}
+use Rattle.controls.specs.Bounds.{Below}
+use Rattle.controls.proofs.Bounds.{below-more, below-additional, below-individual}
 use Rattle.batches.specs.Blocks.{opensBatch, ownAt, ownOf, withRecord, tallied}
 
 -- ---- which they are

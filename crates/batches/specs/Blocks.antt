@@ -2,12 +2,15 @@
 use Prim.Native.Nat.{ℕ}
 use mathlib.Core.Bool.{Bool, true, false, not, cond}
 use mathlib.Core.List.{List, [], _∷_, _++_}
+use mathlib.Core.Path.{_≡_}
+use lib.ListN.{length}
 use Rattle.paper.specs.declared.record.Kind.{Kind}
 use Rattle.paper.specs.declared.record.Kind.the-variants.{FileHeader, BatchHeader, Individual, Additional, BatchControl, FileControl, Other}
 use Rattle.paper.specs.declared.record.Tally.{Tally}
 use Rattle.paper.specs.Kinds.{kindOf}
 use Rattle.paper.specs.Controls.{zeros, withIndividual, withAdditional}
-use Rattle.paper.specs.Writing.{numbered, batchControlOf}
+use Rattle.paper.specs.Writing.{joined, numbered, batchControlOf}
+use Rattle.paper.specs.Buffers.{over}
 
 unfoldable pub opensBatch : Kind → Bool
 opensBatch FileHeader = false
@@ -45,3 +48,9 @@ tallied t (r ∷ rs) = tallied (withRecord (kindOf r) t r) rs
 -- a header under its number, its records, and the control that counts them
 unfoldable pub block : ℕ → List ℕ → List (List ℕ) → List (List ℕ)
 block n header own = numbered n header ∷ (own ++ batchControlOf (numbered n header) (tallied zeros own) ∷ [])
+
+-- records laid over a buffer's front, with the number of a batch's own, and what a control counts of these
+pub record Batched (all own : List (List ℕ)) (before after : List ℕ) (n : ℕ) (t : Tally) : Type 0 where
+  pub bytes : after ≡ over (joined all) before
+  pub count : n ≡ length own
+  pub tally : t ≡ tallied zeros own

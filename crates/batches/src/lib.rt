@@ -3,12 +3,12 @@ ghost use mathlib.Core.Path.{_≡_};
 ghost use Prim.Native.Nat.{_^_, _≤_};
 ghost use lib.ListN.{length};
 ghost use Rattle.paper.specs.Kinds.{kindOf};
-ghost use Rattle.state.specs.Bounds.{Below};
+ghost use Rattle.controls.specs.Bounds.{Below};
 ghost use Rattle.batches.specs.Blocks.{opensBatch, withRecord};
+use controls::tally;
 use field::kind;
 use paper::record::Kind;
 use paper::record::Tally;
-use state::tally;
 
 pub mod records;
 

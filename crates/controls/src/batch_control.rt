@@ -2,13 +2,13 @@
 ghost use mathlib.Core.Path.{_≡_};
 ghost use lib.ListN.{length};
 ghost use Rattle.paper.specs.Controls.{batchControl};
-ghost use Rattle.record.specs.Verdicts.{checkOf};
+ghost use Rattle.verdicts.specs.Verdicts.{checkOf};
 use crate::control;
-use field::number;
-use field::text;
+use characters::number;
+use characters::text;
 use paper::answer::Fault;
 use paper::record::Tally;
-use record::verdict::Verdict;
+use verdicts::verdict::Verdict;
 
 pub fn judge(header: &[u8], tally: Tally, rec: &[u8]) -> Verdict
     requires { ⌜ length (now header) ≡ 94 ⌝ }

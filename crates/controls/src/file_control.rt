@@ -3,12 +3,12 @@ ghost use mathlib.Core.Path.{_≡_};
 ghost use Prim.Native.Nat.{_≤_, _+_};
 ghost use lib.ListN.{length};
 ghost use Rattle.paper.specs.Controls.{blocks, fileControl};
-ghost use Rattle.record.specs.Verdicts.{checkOf};
+ghost use Rattle.verdicts.specs.Verdicts.{checkOf};
 use crate::control;
-use field::number;
+use characters::number;
 use paper::answer::Fault;
 use paper::record::Tally;
-use record::verdict::Verdict;
+use verdicts::verdict::Verdict;
 
 // All records by tens, rounded up.
 pub fn blocks(all: u64) -> u64

@@ -1,4 +1,1 @@
-pub mod Zeros
 pub mod Written
-pub mod Looking
-pub mod Gathering

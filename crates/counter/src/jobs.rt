@@ -2,20 +2,20 @@
 ghost use Prim.Native.Nat.{_<_};
 ghost use Rattle.desk.specs.Calls.{Reachable};
 ghost use Rattle.counter.specs.InBuffer.{InBuffer};
-use crate::held;
-use crate::trays;
-use crate::trays::Took;
 use desk::Reply;
 use desk::Session;
-use files::handing;
-use files::handing::Handed;
 use files::taking;
 use files::taking::Filled;
+use handing::Handed;
+use intake::held;
+use intake::trays;
+use intake::trays::Took;
 use libc::STDOUT_FILENO;
 use listing::Listing;
 use listing::answers;
 use paper::answer::Answer;
 use paper::answer::Output;
+use tray::pieces::Known;
 use typed::call::Job;
 use typed::call::Word;
 use typed::words;
@@ -28,19 +28,19 @@ fn printed(whole: bool) {
 }
 
 fn say_opening(answer: Answer) {
-    let mut line = [0u8; Listing::ROOM];
+    let mut line = [0u8; Listing::LINE];
     let n = answers::opening(answer, &mut line);
     printed(io::write_all(STDOUT_FILENO, &line[..n]));
 }
 
 fn say(answer: Answer) {
-    let mut line = [0u8; Listing::ROOM];
+    let mut line = [0u8; Listing::LINE];
     let n = answers::answer(answer, &mut line);
     printed(io::write_all(STDOUT_FILENO, &line[..n]));
 }
 
 fn say_output(output: Output) {
-    let mut line = [0u8; Listing::ROOM];
+    let mut line = [0u8; Listing::LINE];
     let n = answers::output(output, &mut line);
     printed(io::write_all(STDOUT_FILENO, &line[..n]));
 }
@@ -50,11 +50,7 @@ fn list(session: Session)
     requires { ⌜ Reachable session ⌝ }
 {
     let mut lines = [0u8; Listing::ROOM];
-    let reply = Reply {
-        answer: Answer::Accepted,
-        session,
-    };
-    let n = listing::print(reply, &mut lines);
+    let n = listing::print(session, &mut lines);
     printed(io::write_all(STDOUT_FILENO, &lines[..n]));
 }
 
@@ -174,8 +170,13 @@ fn build_from(session: Session, header: &[u8]) {
     if length == 0 {
         return;
     }
+    build_of(session, header, &path[..length]);
+}
+
+// From the tray of that name.
+fn build_of(session: Session, header: &[u8], path: &[u8]) {
     let mut input = held::input();
-    let took = trays::take(&path[..length], header, &mut input);
+    let took = trays::take(path, header, &mut input);
     let Took::Whole(n, _) = took else {
         say_long(took);
         return;
@@ -186,7 +187,11 @@ fn build_from(session: Session, header: &[u8]) {
 }
 
 fn say_long(took: Took) {
-    let Took::Long(answer, _, _) = took else {
+    let Took::Long(known, _, _) = took else {
+        return;
+    };
+    // `take` always has an answer: no source comes to more records than are looked at
+    let Known::Finite(answer) = known else {
         return;
     };
     say(answer);

@@ -2,17 +2,17 @@
 ghost use Prim.Native.Nat.{_^_, _<_};
 use desk::Session;
 use files::taking;
+use intake::roster;
+use intake::roster::Listed;
 use libc::STDERR_FILENO;
-use roster::Listed;
+use paper::rules::Currency;
 use typed::call;
 use typed::call::Asked;
+use typed::call::Job;
 use typed::call::Word;
 use typed::words;
 
-mod held;
 mod jobs;
-mod roster;
-mod trays;
 
 // What the words of this call ask for.
 fn called() -> Asked {
@@ -34,28 +34,24 @@ fn date() -> u64
 fn usage() {
     io::write_all(
         STDERR_FILENO,
-        b"usage: counter read DATE CURRENCY ROSTER FILE\n",
+        b"usage: counter read DATE CURRENCY ROSTER FILE\n\
+        \x20      counter present DATE CURRENCY ROSTER FILE..\n\
+        \x20      counter extract DATE CURRENCY ROSTER ENTITY FILE OUT\n\
+        \x20      counter build DATE CURRENCY ROSTER HEADER TRAY OUT\n\
+        \x20      counter strip DATE CURRENCY ROSTER FILE OUT\n\
+        DATE is AAMMDD, CURRENCY pesos or dollars, ROSTER a file of entity numbers or the word all.\n",
     );
-    io::write_all(
-        STDERR_FILENO,
-        b"       counter present DATE CURRENCY ROSTER FILE..\n",
-    );
-    io::write_all(
-        STDERR_FILENO,
-        b"       counter extract DATE CURRENCY ROSTER ENTITY FILE OUT\n",
-    );
-    io::write_all(
-        STDERR_FILENO,
-        b"       counter build DATE CURRENCY ROSTER HEADER TRAY OUT\n",
-    );
-    io::write_all(
-        STDERR_FILENO,
-        b"       counter strip DATE CURRENCY ROSTER FILE OUT\n",
-    );
-    io::write_all(
-        STDERR_FILENO,
-        b"DATE is AAMMDD, CURRENCY pesos or dollars, ROSTER a file of entity numbers or the word all.\n",
-    );
+}
+
+// The job in the session that this roster opens.
+fn open_for(job: Job, currency: Currency, path: &[u8]) {
+    let mut entities = [0u64; Session::ROSTER];
+    let roll = roster::gather(path, &mut entities);
+    let listed = roll.listed;
+    let Listed::Entities(count, _) = listed else {
+        return;
+    };
+    jobs::run(job, Session::open(date(), currency, &entities[..count]));
 }
 
 fn main() {
@@ -69,11 +65,5 @@ fn main() {
     if length == 0 {
         return;
     }
-    let mut entities = [0u64; Session::ROSTER];
-    let roll = roster::gather(&path[..length], &mut entities);
-    let listed = roll.listed;
-    let Listed::Entities(count, _) = listed else {
-        return;
-    };
-    jobs::run(job, Session::open(date(), currency, &entities[..count]));
+    open_for(job, currency, &path[..length]);
 }

@@ -1,25 +1,18 @@
 -- The desk's calls are the paper's, so what holds of the paper's sessions holds of the desk's.
 use Prim.Native.Nat.{ℕ, _≤_}
 use mathlib.Core.List.{List, []}
-use mathlib.Core.Path.{_≡_, sym, ap, _∙_, subst}
+use mathlib.Core.Path.{sym, subst}
 use lib.ListN.{getD}
-use Rattle.paper.specs.declared.answer.Answer.the-variants.{Refused}
-use Rattle.paper.specs.declared.answer.Fault.{Fault}
-use Rattle.paper.specs.declared.rules.Currency.{Currency}
-use Rattle.paper.specs.declared.rules.Currency.the-variants.{Pesos}
-use Rattle.paper.specs.Answers.{said}
 use Rattle.paper.specs.Sessions as paper
-use Rattle.paper.specs.Sessions.{zeroCell, newSession}
+use Rattle.paper.specs.Sessions.{zeroCell}
 use Rattle.paper.specs.Listing.{cellSums}
 use Rattle.paper.specs.Demands as calls
 use Rattle.paper.specs.Demands.{withAccepted, Touched, sessionSides}
-use Rattle.paper.proofs.Lent.{opening-refused}
 use Rattle.paper.proofs.Room.{cells-touched}
 use Rattle.paper.proofs.Totals.{sums-touched}
 use Rattle.desk.specs.declared.Session.{Session}
-use Rattle.desk.specs.declared.Reply.{Reply}
 use Rattle.desk.specs.Standing.{standing}
-use Rattle.desk.specs.Calls.{Opens, Came, by-opening, by-presenting, Reachable}
+use Rattle.desk.specs.Calls.{Came, by-opening, by-presenting, Reachable}
 
 pub in-paper : {s : Session} {files : List (List ℕ)} → Came s files → calls.Arose (standing s) files
 in-paper (by-opening date currency entities r h) = subst (λ (x : paper.Reply). calls.Arose (x .session) []) (sym h) (calls.opened date currency entities)
@@ -32,9 +25,3 @@ room c = cells-touched (in-paper (c .came))
 
 pub sums-room : {s : Session} → Reachable s → (n : ℕ) → n ≤ 499 → Touched sessionSides (cellSums n (s .cells))
 sums-room c = sums-touched (in-paper (c .came))
-
--- "A refused opening returns a session of 000101, pesos, empty roster": new, and the same whatever was asked for
-pub refused-opening : (date : ℕ) (currency : Currency) (entities : List ℕ) (r : Reply) → Opens date currency entities r
-    → {fault : Fault} {place : ℕ} → r .answer ≡ Refused fault place → standing (r .session) ≡ newSession 101 Pesos []
-refused-opening date currency entities r h e =
-    ap (λ (x : paper.Reply). x .session) (h ∙ opening-refused date currency entities (sym (ap (λ (x : paper.Reply). x .answer) h) ∙ ap said e))

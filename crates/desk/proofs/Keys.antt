@@ -58,7 +58,7 @@ module _ (file : List ℕ) where
     pub byte-34 : identifierField (field file 34 34) ≡ true → T (digit (getD file 33 0) || capital (getD file 33 0))
     byte-34 e = and-l (digit (getD file 33 0) || capital (getD file 33 0)) true (T-of (sym at-34 ∙ e))
 
-    pub identifier-34 : T (digit (getD file 33 0) || capital (getD file 33 0)) → identifierField (field file 34 34) ≡ true
+    identifier-34 : T (digit (getD file 33 0) || capital (getD file 33 0)) → identifierField (field file 34 34) ≡ true
     identifier-34 t = at-34 ∙ rw (of-T (digit (getD file 33 0) || capital (getD file 33 0)) t)
 
 -- of a file that the reading accepts it is the paper's

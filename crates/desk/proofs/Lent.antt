@@ -1,24 +1,16 @@
 -- What a call says of the buffer that it was lent, whatever job it does: one law for extracting, building and stripping.
-use Prim.Native.Nat.{ℕ, _≤_}
-use native.Mathlib.Omega.{arith}
+use Prim.Native.Nat.{ℕ}
 use mathlib.Core.List.{List}
 use mathlib.Core.Path.{_≡_, sym, ap, _∙_, subst}
-use lib.ListN.{length, take, drop, length-append}
+use lib.ListN.{length, take, drop}
 use lib.Seq.{take-at}
-use Rattle.paper.specs.declared.answer.Fault.{Fault}
 use Rattle.paper.specs.declared.answer.Output.{Output}
-use Rattle.paper.specs.declared.answer.Output.the-variants.{Accepted, Refused}
+use Rattle.paper.specs.declared.answer.Output.the-variants.{Accepted}
 use Rattle.paper.specs.Answers.{Said, accepted, refused}
 use Rattle.paper.specs.Buffers.{Outcome, told, over, written}
-use Rattle.paper.proofs.Refusals.{refused-not}
 use Rattle.paper.proofs.Lent.{over-rest}
 use Rattle.paper.proofs.Numbers.{told-once}
 use Rattle.desk.specs.Lent.{handed}
-
--- a lent buffer comes back as long as it was, where the job's does
-pub same-length : (o : Outcome) (r : Output) (after : List ℕ) → told r after ≡ o → {n : ℕ} → length (o .buffer) ≡ n → length after ≡ n
-same-length o (Accepted m) after h l = ap (λ (x : Outcome). length (x .buffer)) h ∙ l
-same-length o (Refused fault place) after h l = ap (λ (x : Outcome). length (x .buffer)) h ∙ l
 
 -- a job that writes a new text where its answer is acceptance
 module _ (a : Said) (new before : List ℕ) (r : Output) (after : List ℕ) (h : told r after ≡ written a new before) where
@@ -34,12 +26,9 @@ module _ (a : Said) (new before : List ℕ) (r : Output) (after : List ℕ) (h :
   pub asked : {n : ℕ} → r ≡ Accepted n → a ≡ accepted
   asked p = sym answers ∙ ap (λ (x : Output). told x after .answer) p
 
-  wrote : a ≡ accepted → (r ≡ Accepted (length new)) × (after ≡ over new before)
+  pub wrote : a ≡ accepted → (r ≡ Accepted (length new)) × (after ≡ over new before)
   unfolding written
   wrote e = told-once r (Accepted (length new)) after (over new before) (h ∙ ap (λ (b : Said). written b new before) e)
-
-  pub numbers : a ≡ accepted → r ≡ Accepted (length new)
-  numbers e = wrote e .0
 
   -- then the caller has the text, and the rest of the buffer stays
   pub held : {n : ℕ} → r ≡ Accepted n → (handed r after ≡ new) × (n ≡ length new) × (drop n after ≡ drop n before)
@@ -51,17 +40,3 @@ module _ (a : Said) (new before : List ℕ) (r : Output) (after : List ℕ) (h :
         l,
         ap (drop n) (w .1) ∙ subst (λ (m : ℕ). drop m (over new before) ≡ drop m before) (sym l) (over-rest new before),
       )
-
-  -- the number of bytes is within the buffer
-  pub inside : {n : ℕ} → r ≡ Accepted n → n ≤ length after
-  unfolding over
-  inside p = omega (arith, held p .1, ap length (wrote (asked p) .1) ∙ length-append new (drop (length new) before))
-
-  -- every refusal leaves the buffer
-  pub stays : {fault : Fault} {place : ℕ} → r ≡ Refused fault place → after ≡ before
-  unfolding written
-  stays {fault} {place} p = go a (subst (λ (x : Output). told x after ≡ written a new before) p h)
-    where
-      go : (b : Said) → told (Refused fault place) after ≡ written b new before → after ≡ before
-      go accepted k = absurd (refused-not (ap (λ (o : Outcome). o .answer) k))
-      go (refused n q) k = ap (λ (o : Outcome). o .buffer) k

@@ -2,7 +2,7 @@
 use Prim.Native.Nat.{ℕ}
 use mathlib.Core.Bool.{true, false, not}
 use mathlib.Core.List.{List, []}
-use mathlib.Core.Path.{_≡_, refl, sym, ap, _∙_, ap₂}
+use mathlib.Core.Path.{_≡_, refl, sym, ap, _∙_}
 use lib.ListN.{getD, set}
 use Rattle.paper.specs.declared.ledger.Cell.{Cell}
 use Rattle.paper.specs.declared.rules.Currency.{Currency}
@@ -59,11 +59,9 @@ module _ (s : paper.Session) (file : List ℕ) where
   one-answer (refused n place) h = refl
   one-answer accepted h = ap (λ (k : ℕ). answerBy k accepted) (key-accepted (s .rules) file h)
 
-  pub answers-so : {read first next answer : Said} {key : ℕ} → read ≡ reading (s .rules) file → key ≡ keyIf (keyed file) file
-      → first ≡ read → next ≡ require (not (getD (s .used) key false)) 209 0 → answer ≡ andThen first next → answer ≡ answerTo s file
+  pub answers-so : {answer : Said} {key : ℕ} → answer ≡ answerBy key (reading (s .rules) file) → key ≡ keyIf (keyed file) file → answer ≡ answerTo s file
   unfolding answerTo
-  answers-so h k f n e =
-      e ∙ (ap₂ andThen (f ∙ h) (n ∙ ap (λ (i : ℕ). require (not (getD (s .used) i false)) 209 0) k) ∙ one-answer (reading (s .rules) file) refl)
+  answers-so e k = e ∙ ap (λ (i : ℕ). answerBy i (reading (s .rules) file)) k ∙ one-answer (reading (s .rules) file) refl
 
   module _ (answer : Answer) (h : said answer ≡ answerTo s file) where
     pub stays : {fault : Fault} {place : ℕ} → answer ≡ Refused fault place → reply (said answer) s ≡ presenting s file

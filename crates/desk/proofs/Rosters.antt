@@ -1,14 +1,15 @@
--- Marks for a list of entity numbers, one after the other.
+-- Marks for a list of entity numbers, one after the other; and the list of all.
 use Prim.Native.Nat.{ℕ, zero, suc, _+_, _≤_, _<_}
 use mathlib.Core.Bool.{Bool, true}
-use mathlib.Core.List.{List, [], _∷_}
+use mathlib.Core.List.{List, [], _∷_, _++_}
 use mathlib.Core.Path.{_≡_, sym, ap, _∙_}
 use native.Mathlib.Numerals.{add-one}
 use native.Mathlib.Omega.{arith}
 use lib.Dec.{T}
 use lib.ListN.{length, take, getD, set}
-use lib.Seq.{take-suc, take-all}
+use lib.Seq.{take-suc, take-suc-set, take-all}
 use Rattle.paper.specs.Fields.{every, within}
+use Rattle.paper.specs.Listing.{numbersTo}
 use Rattle.paper.specs.Sessions.{listed}
 use Rattle.paper.proofs.Tests.{and-l, and-r, T-of, of-T, within-range}
 use Rattle.paper.proofs.Rosters.{listed-set}
@@ -41,3 +42,21 @@ module _ (es : List ℕ) (i : ℕ) where
 
   pub mark-end : (roster : List Bool) → Marked es roster i → length es ≤ i → roster ≡ listed 500 0 es
   mark-end roster m l = m .1 ∙ ap (listed 500 0) (take-all i es l)
+
+-- ---- everybody
+
+-- the first i of 499 numbers are written
+abbrev pub Numbered : List ℕ → ℕ → Type 0
+Numbered entities i = (i ≤ 499) × (length entities ≡ 499) × (take i entities ≡ numbersTo i)
+
+module _ (entities : List ℕ) (i : ℕ) (k : Numbered entities i) where
+  pub number-turn : i < 499 → take (i + 1) (set entities i (i + 1)) ≡ numbersTo (i + 1)
+  unfolding numbersTo
+  number-turn h =
+      let e = add-one i in
+      ap (λ (n : ℕ). take n (set entities i n)) e ∙ (take-suc-set entities i (suc i) (omega (arith, k .1)) ∙ (ap (λ (l : List ℕ). l ++ suc i ∷ []) (k .2) ∙ ap numbersTo (sym e)))
+
+  pub number-end : 499 ≤ i → entities ≡ numbersTo 499
+  number-end h =
+      let e : i ≡ 499 = omega (arith, k .0) in
+      sym (take-all i entities (omega (arith, k .1))) ∙ (k .2 ∙ ap numbersTo e)

@@ -3,10 +3,12 @@ use Prim.Native.Nat.{ℕ}
 use mathlib.Core.List.{List, []}
 use mathlib.Core.Path.{_≡_}
 use Rattle.paper.specs.declared.answer.Answer.{Answer}
+use Rattle.paper.specs.declared.answer.Output.{Output}
 use Rattle.paper.specs.declared.ledger.Cell.{Cell}
 use Rattle.paper.specs.declared.rules.Currency.{Currency}
 use Rattle.paper.specs.Answers.{said}
 use Rattle.paper.specs.Reading.{reading}
+use Rattle.paper.specs.Buffers.{told, extracting, building, stripping}
 use Rattle.paper.specs.Sessions.{opening, presenting, cellOf}
 use Rattle.paper.specs.Demands.{withAccepted}
 use Rattle.desk.specs.declared.Session.{Session}
@@ -23,6 +25,18 @@ Reads s file a = said a ≡ reading (rulesOf s) file
 
 abbrev pub Presents : Session → List ℕ → Reply → Type 0
 Presents s file r = heard r ≡ presenting (standing s) file
+
+-- of a session, an entity, a file and a lent buffer: the answer, and the buffer after it
+abbrev pub Extracts : Session → ℕ → List ℕ → List ℕ → Output → List ℕ → Type 0
+Extracts s e file before r after = told r after ≡ extracting (rulesOf s) e file before
+
+-- of a session, a header body, a tray and a lent buffer
+abbrev pub Builds : Session → List ℕ → List ℕ → List ℕ → Output → List ℕ → Type 0
+Builds s header tray before r after = told r after ≡ building (rulesOf s) header tray before
+
+-- of a session, a file and a lent buffer
+abbrev pub Strips : Session → List ℕ → List ℕ → Output → List ℕ → Type 0
+Strips s file before r after = told r after ≡ stripping (rulesOf s) file before
 
 -- of a session and an entity: its cell
 abbrev pub Holds : Session → ℕ → Cell → Type 0

@@ -5,7 +5,6 @@ use mathlib.Core.List.{List}
 use lib.Dec.{leb}
 use lib.ListN.{length}
 use Rattle.paper.specs.declared.rules.Rules.{Rules}
-use Rattle.paper.specs.declared.rules.Terms.{Terms}
 use Rattle.paper.specs.Answers.{said}
 use Rattle.paper.specs.Fields.{field, identifierField}
 use Rattle.paper.specs.Sessions as paper
@@ -13,10 +12,7 @@ use Rattle.paper.specs.Sessions.{keyOf}
 use Rattle.desk.specs.declared.Session.{Session}
 use Rattle.desk.specs.declared.Reply.{Reply}
 
--- its date and currency, and with them the roster
-abbrev pub termsOf : Session → Terms
-termsOf s = record { date = s .date; currency = s .currency }
-
+-- its date, currency and roster
 abbrev pub rulesOf : Session → Rules
 rulesOf s = record { date = s .date; currency = s .currency; roster = s .roster }
 

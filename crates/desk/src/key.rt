@@ -7,9 +7,9 @@ ghost use Rattle.paper.specs.Fields.{digit, capital};
 ghost use Rattle.paper.specs.Sessions.{identifierIf};
 ghost use Rattle.desk.specs.Standing.{keyed, keyIf};
 use crate::Session;
+use characters::text;
 use field::entity;
-use field::text;
-use state::State;
+use field::place::Record;
 
 // An origin has so many identifiers.
 const IDENTIFIERS: usize = 36;
@@ -32,7 +32,7 @@ fn identifier(b: u8) -> usize
 pub fn key(file: &[u8]) -> usize
     ensures { λ r. ⌜ (r ≡ keyIf (keyed (now (file .entry))) (now (file .entry))) × (r < 18000) ⌝ }
 {
-    if file.len() < State::RECORD {
+    if file.len() < Record::LENGTH {
         return 0;
     }
     if !text::identifier(file, 34) {

@@ -5,21 +5,19 @@ ghost use mathlib.Core.List.{[]};
 ghost use Rattle.paper.specs.declared.rules.Currency.the-variants.{Pesos};
 ghost use Rattle.paper.specs.Answers.{refused, numberOf};
 ghost use Rattle.paper.specs.Fields.{every, within};
+ghost use Rattle.paper.specs.Listing.{numbersTo};
 ghost use Rattle.paper.specs.Sessions.{listed, newSession};
-ghost use Rattle.desk.specs.Standing.{termsOf, standing, heard};
-ghost use Rattle.desk.specs.Calls.{Opens, Reads, Presents, Holds, HoldsAll, Reachable};
-ghost use Rattle.desk.specs.Extracts.{Extracts};
-ghost use Rattle.desk.specs.Trays.{Builds, Strips};
+ghost use Rattle.desk.specs.Standing.{standing, heard};
+ghost use Rattle.desk.specs.Calls.{Opens, Reads, Presents, Extracts, Builds, Strips, Holds, HoldsAll, Reachable};
 use field::date;
+use field::place::Record;
 use paper::answer::Answer;
 use paper::answer::Fault;
 use paper::answer::Output;
 use paper::ledger::Cell;
 use paper::rules::Currency;
 use paper::rules::Rules;
-use paper::rules::Terms;
 use reading::Reading;
-use state::State;
 
 mod answers;
 mod key;
@@ -88,15 +86,30 @@ fn not_opened(fault: Fault) -> Reply
 
 impl Session {
     // Bytes of a record.
-    pub const RECORD: usize = State::RECORD;
+    pub const RECORD: usize = Record::LENGTH;
     // Bytes of a file, at most.
     pub const FILE_LIMIT: usize = Reading::LONGEST;
     // Entity numbers are below this.
     pub const ROSTER: usize = Rules::ROSTER;
     // The highest entity number.
     pub const LAST: u64 = Currency::LAST;
+    // How many entities there are.
+    pub const EVERYBODY: usize = Session::LAST as usize;
     // 000101
     pub const FIRST_DATE: u64 = 101;
+
+    // The roster of all: 1 to 499.
+    pub fn everybody() -> [u64; Session::EVERYBODY]
+        ensures { λ r. ⌜ r ≡ numbersTo 499 ⌝ }
+    {
+        let mut entities = [0u64; Session::EVERYBODY];
+        let mut i: usize = 0;
+        while i < Session::EVERYBODY {
+            entities[i] = i as u64 + 1;
+            i += 1;
+        }
+        entities
+    }
 
     // A bad date is 75; then a number not 1 to 499 is 208.
     pub fn open(date: u64, currency: Currency, entities: &[u64]) -> Reply
@@ -114,21 +127,11 @@ impl Session {
         }
     }
 
-    fn terms(self) -> Terms
-        ensures { λ r. ⌜ r ≡ termsOf self ⌝ }
-    {
-        let currency = self.currency;
-        Terms {
-            date: self.date,
-            currency,
-        }
-    }
-
     pub fn read(self, file: &[u8]) -> Answer
         ensures { λ r. ⌜ Reads self (now (file .entry)) r ⌝ }
     {
-        let terms = self.terms();
-        answers::of_reading(reading::read(terms, &self.roster, file))
+        let currency = self.currency;
+        answers::read(self.date, currency, &self.roster, file)
     }
 
     // The reading's refusals, then 209. A refusal leaves the session as it is and uses up no identifier.
@@ -137,13 +140,10 @@ impl Session {
         ensures { λ r. ⌜ Presents self (now (file .entry)) r × Reachable (r .session) ⌝ }
     {
         let mut session = self;
-        let terms = session.terms();
-        let reading = reading::read(terms, &session.roster, file);
         let key = key::key(file);
         let used = session.used[key];
-        let read = answers::of_reading(reading);
-        let new = answers::unless_used(used);
-        let answer = read.and_then(new);
+        let currency = session.currency;
+        let answer = answers::present(session.date, currency, &session.roster, file, used);
         let Answer::Accepted = answer else {
             return Reply { answer, session };
         };
@@ -160,12 +160,11 @@ impl Session {
         if !roster::is_listed(&self.roster, entity) {
             return Output::Refused(Fault::Entity, 0);
         }
-        let terms = self.terms();
-        let reading = reading::read(terms, &self.roster, file);
-        let Reading::Accepted(_) = reading else {
-            return Output::unwritten(answers::of_reading(reading));
-        };
         let currency = self.currency;
+        let read = answers::read(self.date, currency, &self.roster, file);
+        let Answer::Accepted = read else {
+            return Output::unwritten(read);
+        };
         extract::extract(currency, entity, file, out)
     }
 
@@ -173,15 +172,15 @@ impl Session {
     pub fn build(self, header: &[u8], tray: &[u8], out: &mut [u8]) -> Output
         ensures { λ r. ⌜ Builds self (now (header .entry)) (now (tray .entry)) (now (out .entry)) r (now (out .exit)) ⌝ }
     {
-        let built = build::build(header, tray, out);
+        let built = building::build(header, tray, out);
         let Output::Accepted(size) = built else {
             return built;
         };
-        let terms = self.terms();
-        let reading = reading::read(terms, &self.roster, &out[0..size]);
-        let Reading::Accepted(_) = reading else {
+        let currency = self.currency;
+        let read = answers::read(self.date, currency, &self.roster, &out[0..size]);
+        let Answer::Accepted = read else {
             writing::blanks(&mut out[0..size]);
-            return Output::unwritten(answers::of_reading(reading));
+            return Output::unwritten(read);
         };
         built
     }
@@ -190,10 +189,10 @@ impl Session {
     pub fn strip(self, file: &[u8], out: &mut [u8]) -> Output
         ensures { λ r. ⌜ Strips self (now (file .entry)) (now (out .entry)) r (now (out .exit)) ⌝ }
     {
-        let terms = self.terms();
-        let reading = reading::read(terms, &self.roster, file);
-        let Reading::Accepted(_) = reading else {
-            return Output::unwritten(answers::of_reading(reading));
+        let currency = self.currency;
+        let read = answers::read(self.date, currency, &self.roster, file);
+        let Answer::Accepted = read else {
+            return Output::unwritten(read);
         };
         strip::strip(file, out)
     }

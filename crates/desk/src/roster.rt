@@ -4,7 +4,7 @@ ghost use mathlib.Core.Bool.{false, _&&_};
 ghost use lib.ListN.{getD};
 ghost use Rattle.paper.specs.Fields.{every, within};
 use crate::Session;
-use field::number;
+use characters::number;
 
 // The lowest entity number.
 const FIRST: u64 = 1;

@@ -2,12 +2,12 @@
 ghost use mathlib.Core.Path.{_≡_};
 ghost use lib.ListN.{length};
 ghost use Rattle.paper.specs.Records.{additional99, additional05, additional};
-ghost use Rattle.record.specs.Verdicts.{checkOf};
+ghost use Rattle.verdicts.specs.Verdicts.{checkOf};
+use characters::number;
+use characters::text;
 use field::kind;
-use field::number;
-use field::text;
 use paper::answer::Fault;
-use record::verdict::Verdict;
+use verdicts::verdict::Verdict;
 
 // After 36 or 31.
 pub fn judge99(individual: &[u8], rec: &[u8]) -> Verdict

@@ -1,25 +1,17 @@
 // 6, individual.
 ghost use mathlib.Core.Path.{_≡_};
-ghost use Prim.Native.Nat.{_<_, _^_};
 ghost use lib.ListN.{length};
-ghost use Rattle.paper.specs.Records.{amountOf, accountGood, informationGood, flagGood, counterGood, transfer, individual};
-ghost use Rattle.record.specs.Verdicts.{checkOf, under};
+ghost use Rattle.paper.specs.Records.{accountGood, informationGood, flagGood, counterGood, transfer, individual};
+ghost use Rattle.verdicts.specs.Verdicts.{checkOf, under};
+use characters::number;
+use characters::text;
+use field::individual;
 use field::kind;
-use field::number;
-use field::text;
 use paper::answer::Fault;
 use paper::rules::Rules;
 use paper::rules::Terms;
-use record::member;
-use record::verdict::Verdict;
-
-// In cents.
-pub fn amount(rec: &[u8]) -> u64
-    requires { ⌜ length (now rec) ≡ 94 ⌝ }
-    ensures { λ r. ⌜ (r ≡ amountOf (now (rec .entry))) × (r < 10 ^ 10) ⌝ }
-{
-    number::number(rec, 30, 39)
-}
+use verdicts::member;
+use verdicts::verdict::Verdict;
 
 pub fn account_good(rec: &[u8]) -> bool
     requires { ⌜ length (now rec) ≡ 94 ⌝ }
@@ -40,8 +32,7 @@ pub fn flag_good(rec: &[u8]) -> bool
     requires { ⌜ length (now rec) ≡ 94 ⌝ }
     ensures { λ r. ⌜ r ≡ flagGood (now (rec .entry)) ⌝ }
 {
-    text::reads(rec, 79, 79, b"1")
-        | (kind::is_order(kind::code(rec)) & text::reads(rec, 77, 78, b"00"))
+    individual::flagged(rec) | (kind::is_order(kind::code(rec)) & text::reads(rec, 77, 78, b"00"))
 }
 
 pub fn counter_good(header: &[u8], previous: u64, rec: &[u8]) -> bool
@@ -64,7 +55,7 @@ pub fn transfer(terms: Terms, roster: &[bool; Rules::ROSTER], rec: &[u8]) -> Ver
         .need(text::reads(rec, 12, 12, b"0"), Fault::Reserved)
         .need(account_good(rec), Fault::Account)
         .need(
-            number::digits(rec, 30, 39) & (0 < amount(rec)),
+            number::digits(rec, 30, 39) & (0 < individual::amount(rec)),
             Fault::Amount,
         )
         .need(!text::blank(rec, 40, 54), Fault::Reference)

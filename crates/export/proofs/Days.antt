@@ -51,11 +51,11 @@ abbrev pub turns : Session → List ℕ → Turns
 turns session answers = record { session = session; answers = answers }
 
 module _ (i from : ℕ) (ends files : List ℕ) where
-  pub one-turn : (s : Session) (file answers answers′ : List ℕ) (reply : Reply) (spoken : Spoken) → i < length ends
+  pub one-turn : (s : Session) (answers : List ℕ) {file answers′ : List ℕ} {reply : Reply} {spoken : Spoken} → i < length ends
       → file ≡ between from (getD ends i 0) files → reply ≡ presenting s file → spoken ≡ spokenOf 0 (reply .answer) → answers′ ≡ answerWritten i spoken answers
       → turnsFrom i from (drop i ends) files (turns s answers) ≡ turnsFrom (i + 1) (getD ends i 0) (drop (i + 1) ends) files (turns (reply .session) answers′)
   unfolding turnsFrom turn
-  one-turn s file answers answers′ reply spoken l f r p a = rw (drop-cons ends i 0 l, ← add-one i, a, p, r, f)
+  one-turn s answers l f r p a = rw (drop-cons ends i 0 l, ← add-one i, a, p, r, f)
 
   pub last-turn : (t : Turns) → length ends ≤ i → turnsFrom i from (drop i ends) files t ≡ t
   unfolding turnsFrom

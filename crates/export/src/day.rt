@@ -11,10 +11,8 @@ use crate::currency;
 use crate::figures::hand_figures;
 use crate::least;
 use crate::speak;
-use desk::Reply;
 use desk::Session;
 use listing::Listing;
-use paper::answer::Answer;
 
 // Opening and presenting say no number of records.
 const NO_RECORDS: usize = 0;
@@ -99,9 +97,5 @@ pub extern "C" fn shaydhoqel_day_listing(
     let session = opened.session;
     let mut unasked: [u64; 0] = [];
     let closed = present_all(session, ends, files, &mut unasked);
-    let reply = Reply {
-        answer: Answer::Accepted,
-        session: closed,
-    };
-    listing::print(reply, out) as u64
+    listing::print(closed, out) as u64
 }

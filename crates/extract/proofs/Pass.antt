@@ -18,7 +18,7 @@ use Rattle.paper.specs.Demands.{Faultless}
 use Rattle.paper.proofs.Accepted.{Follows, file-begins, batch-opens, file-ends, first-individual, its-additional, next-individual, batch-closes, judged-facts, first-header, after-last, accepted-facts}
 use Rattle.paper.proofs.Lists.{length-parts}
 use Rattle.paper.proofs.Places.{parts-from}
-use Rattle.state.specs.States.{recordAt}
+use Rattle.field.specs.Places.{recordAt}
 use Rattle.picking.specs.Notes.{Notes, Stage, passing, going, isGoing, waiting, notesBy, notesWith, notesAfter, goesTo, headersTo}
 use Rattle.picking.specs.Places.{chosen}
 use Rattle.picking.proofs.Chosen.{length-chosen}

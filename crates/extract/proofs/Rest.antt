@@ -16,7 +16,7 @@ use Rattle.paper.proofs.Grouping.{BatchesGood, extract-good}
 use Rattle.paper.proofs.Lists.{joined-append}
 use Rattle.paper.proofs.Regrouping.{length-header}
 use Rattle.paper.proofs.Size.{extract-fits}
-use Rattle.state.specs.States.{recordAt}
+use Rattle.field.specs.Places.{recordAt}
 use Rattle.picking.specs.Places.{Passed, chosen}
 use Rattle.batches.specs.Blocks.{ownOf, tallied, block}
 use Rattle.extract.specs.Blocks.{blocksFrom, flat}
@@ -38,9 +38,6 @@ header-length currency e file r = length-header currency e (take 94 file) (lengt
 pub extract-length : (currency : Currency) (e : ℕ) (file : List ℕ) → Passed file → length (extract currency e file) ≡ 94 + length (blocksTo e file)
 extract-length currency e file r =
     ap length (header-blocks currency e file r) ∙ length-append (headerFor currency e (take 94 file)) (blocksTo e file) ∙ omega (arith, header-length currency e file r)
-
-pub whole-room : (currency : Currency) (e : ℕ) (file out : List ℕ) → Passed file → length (extract currency e file) ≤ length out → 94 + length (blocksTo e file) ≤ length out
-whole-room currency e file out r h = omega (arith, extract-length currency e file r)
 
 -- which together are never longer than the file
 pub blocks-fit : (e : ℕ) (file : List ℕ) → Passed file → 94 + length (blocksTo e file) ≤ length file

@@ -1,22 +1,19 @@
 -- How long blocks are, and what their controls can count.
 use Prim.Native.Nat.{ℕ, suc, _+_, _*_}
-use mathlib.Core.List.{List, [], _∷_, _++_}
-use mathlib.Core.Path.{_≡_, refl, ap, _∙_}
+use mathlib.Core.List.{List, [], _∷_}
+use mathlib.Core.Path.{_≡_, ap, _∙_}
 use native.Mathlib.Omega.{arith}
 use lib.ListN.{length, length-append}
 use Rattle.paper.specs.declared.record.Tally.{Tally}
 use Rattle.paper.specs.Controls.{zeros, plus}
 use Rattle.paper.specs.Writing.{joined}
 use Rattle.paper.specs.Extract.{Item, Batch, itemRecords}
-use Rattle.paper.specs.Demands.{itemsIn}
 use Rattle.paper.proofs.Lists.{Sized, sized-append, joined-append, length-joined}
 use Rattle.paper.proofs.Closing.{length-fileControl}
 use Rattle.paper.proofs.Grouping.{AdditionalsGood, ItemsGood, BatchesGood}
 use Rattle.batches.specs.Blocks.{tallied, block}
 use Rattle.batches.proofs.Blocks.{length-block}
 use Rattle.extract.specs.Blocks.{blocksFrom, flat}
-
--- ---- how many records
 
 additionals-sized : (xs : List (List ℕ)) → AdditionalsGood xs → Sized 94 xs
 additionals-sized [] g = tt
@@ -26,18 +23,6 @@ pub items-sized : (is : List Item) → ItemsGood is → Sized 94 (itemRecords is
 unfolding itemRecords
 items-sized [] g = tt
 items-sized (i ∷ is) g = (g .0 .1, sized-append 94 (i .additionals) (itemRecords is) (additionals-sized (i .additionals) (g .1)) (items-sized is (g .2)))
-
-items-append : (a b : List Item) → length (itemRecords (a ++ b)) ≡ length (itemRecords a) + length (itemRecords b)
-unfolding itemRecords
-items-append [] b = omega arith
-items-append (i ∷ a) b = simp (length-append, items-append a b) (omega arith)
-
-pub length-flat : (bs : List Batch) → length (flat bs) ≡ length bs + length (itemRecords (itemsIn bs))
-unfolding flat itemsIn itemRecords
-length-flat [] = refl
-length-flat (b ∷ bs) = omega (arith, length-append (itemRecords (b .items)) (flat bs), items-append (b .items) (itemsIn bs), length-flat bs)
-
--- ---- how many bytes
 
 pub length-blocks : (place n : ℕ) (closed : Tally) (bs : List Batch) → BatchesGood bs
     → length (joined (blocksFrom place n closed bs)) ≡ (length (flat bs) + length bs + 1) * 94

@@ -21,7 +21,7 @@ use Rattle.picking.proofs.Chosen.{length-chosen}
 use Rattle.picking.proofs.Rising.{goes-few, headers-fewer}
 use Rattle.extract.proofs.Rest.{extract-length}
 
-module _ (e : ℕ) (file : List ℕ) (r : Passed file) (before : List ℕ) (p : Picked) (places : List ℕ) (k : Picks e file before p places) where
+module _ {e : ℕ} {file before places : List ℕ} {p : Picked} (r : Passed file) (k : Picks e file before p places) where
   -- what goes stands first in the buffer
   pub taken : {n : ℕ} → n ≡ p .count → take n places ≡ goesTo e file
   unfolding over

@@ -5,8 +5,8 @@ ghost use lib.ListN.{length};
 ghost use Rattle.paper.specs.Entities.{currencyAdds};
 ghost use Rattle.paper.specs.Extract.{headerFor};
 ghost use Rattle.writing.specs.Laid.{laid};
-ghost use Rattle.extract.specs.Header.{destinationOf};
-use field::text::part;
+ghost use Rattle.extract.specs.Header.{destinationFor, ToTurn};
+use characters::text::part;
 use paper::rules::Currency;
 use writing::field;
 use writing::text;
@@ -26,7 +26,7 @@ fn adds(currency: Currency) -> u64
 // Positions 4-13: the entity that the extract is for.
 fn destination(dst: &mut [u8], at: usize, currency: Currency, entity: u64) -> usize
     requires { ⌜ (at + 10 ≤ length (now dst)) × (entity ≤ 499) ⌝ }
-    ensures { λ r. ⌜ (r ≡ at + length (destinationOf currency entity)) × (now (dst .exit) ≡ laid at (destinationOf currency entity) (now (dst .entry))) ⌝ }
+    ensures { λ r. ⌜ (r ≡ at + length (destinationFor currency entity)) × (now (dst .exit) ≡ laid at (destinationFor currency entity) (now (dst .entry))) ⌝ }
 {
     let number = text(dst, at, b" ");
     let branch = field(dst, number, ENTITY, entity + adds(currency));
@@ -35,7 +35,7 @@ fn destination(dst: &mut [u8], at: usize, currency: Currency, entity: u64) -> us
 
 // The sender's header, turned round: its old 4-13 stands in 14-23, and 41-63 and 64-86 are exchanged.
 pub fn write(dst: &mut [u8], currency: Currency, entity: u64, header: &[u8])
-    requires { ⌜ (length (now dst) ≡ 94) × (length (now header) ≡ 94) × (entity ≤ 499) ⌝ }
+    requires { ⌜ ToTurn entity (now header) (now dst) ⌝ }
     ensures { λ _. ⌜ now (dst .exit) ≡ headerFor currency entity (now (header .entry)) ⌝ }
 {
     let for_entity = text(dst, 0, part(header, 1, 3));

@@ -5,11 +5,11 @@ ghost use Rattle.paper.specs.Buffers.{told, written, roomFor};
 ghost use Rattle.paper.specs.Extract.{extract};
 ghost use Rattle.picking.specs.Places.{Passed};
 use batches::records;
+use field::place::Record;
 use paper::answer::Fault;
 use paper::answer::Output;
 use paper::rules::Currency;
 use picking::Picked;
-use state::State;
 
 mod batch;
 mod header;
@@ -25,7 +25,7 @@ pub fn extract(currency: Currency, entity: u64, file: &[u8], out: &mut [u8]) -> 
     let mut places = [0; Picked::MOST];
     let picked = picking::pick(entity, file, &mut places);
     let count = picked.count;
-    let size = (count + picked.batches + records::FRAME) * State::RECORD;
+    let size = (count + picked.batches + records::FRAME) * Record::LENGTH;
     if out.len() < size {
         return Output::Refused(Fault::Room, 0);
     }

@@ -1,5 +1,2 @@
-pub mod Ranges
-pub mod Part
-pub mod Scan
-pub mod Value
+pub mod Arms
 pub mod Numbers

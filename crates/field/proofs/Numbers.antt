@@ -13,8 +13,8 @@ use Rattle.paper.specs.Kinds.{codeOf}
 use Rattle.paper.specs.declared.record.Code.{Code}
 use Rattle.paper.specs.declared.record.Code.the-variants.{Order, Rejection, Reversal, ReversalRejection, Unknown}
 use Rattle.paper.proofs.Tests.{T-of, within-range, same→eq}
-use Rattle.field.proofs.Scan.{every-at}
-use Rattle.field.proofs.Value.{no-number}
+use Rattle.characters.proofs.Scan.{every-at}
+use Rattle.characters.proofs.Value.{no-number}
 
 -- nothing is no date
 pub date-number : (f : List ℕ) → isDate (number f) ≡ dateField f

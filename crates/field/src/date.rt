@@ -3,9 +3,9 @@ ghost use mathlib.Core.Path.{_≡_};
 ghost use Prim.Native.Nat.{_+_};
 ghost use Rattle.paper.specs.Fields.{field};
 ghost use Rattle.paper.specs.Dates.{monthDays, isDate, dateField, timeField};
-ghost use Rattle.field.specs.Part.{HasField};
-use crate::number;
-use crate::text;
+ghost use Rattle.characters.specs.Part.{HasField};
+use characters::number;
+use characters::text;
 
 // The last day of 2099.
 const LAST_DATE: u64 = 991231;

@@ -3,8 +3,8 @@ ghost use mathlib.Core.Path.{_≡_};
 ghost use Prim.Native.Nat.{_+_, _<_};
 ghost use Rattle.paper.specs.Fields.{field};
 ghost use Rattle.paper.specs.Entities.{entityValue, ofCurrency, entityField, entity, onRoster};
-ghost use Rattle.field.specs.Part.{HasField};
-use crate::number;
+ghost use Rattle.characters.specs.Part.{HasField};
+use characters::number;
 use paper::rules::Currency;
 use paper::rules::Rules;
 

@@ -3,7 +3,7 @@ ghost use mathlib.Core.Path.{_≡_};
 ghost use Prim.Native.Nat.{_≤_};
 ghost use lib.ListN.{length};
 ghost use Rattle.paper.specs.Kinds.{kindOf, codeOf, known, isOrder, takes01, collects, pays, rejects};
-use crate::number;
+use characters::number;
 use paper::record::Code;
 use paper::record::Kind;
 

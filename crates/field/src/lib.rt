@@ -1,7 +1,6 @@
-// Field by field: what the bytes of a record say.
-pub mod byte;
+// Field by field: what a record says. And records by their places in a file.
 pub mod date;
 pub mod entity;
+pub mod individual;
 pub mod kind;
-pub mod number;
-pub mod text;
+pub mod place;

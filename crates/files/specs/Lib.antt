@@ -1,3 +1,2 @@
 pub mod Counted
 pub mod Sources
-pub mod Handed

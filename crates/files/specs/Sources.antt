@@ -10,6 +10,7 @@ use lib.Signed.{nonNeg}
 use Rattle.watch.specs.declared.Watch.{Watch}
 use Rattle.watch.specs.Watches.{placeOf, watchAt, watchOn}
 use Rattle.files.specs.declared.taking.Source.{Source}
+use Rattle.files.specs.declared.taking.Failure.{Failure}
 use Rattle.files.specs.declared.taking.Readable.{Readable}
 use Rattle.files.specs.declared.taking.Readable.the-variants as opened
 use Rattle.files.specs.declared.taking.Filled.{Filled}
@@ -23,6 +24,14 @@ handedBy source = source .total
 abbrev pub watchOf : Source → Watch
 watchOf source = source .watch
 
+-- and the name that it was opened under
+abbrev pub nameOf : Source → Watch
+nameOf source = source .name
+
+-- the name that could not be read
+abbrev pub nameIn : Failure → Watch
+nameIn failure = failure .name
+
 -- its last filling met the end
 abbrev pub hasEnded : Source → Bool
 hasEnded source = source .ended
@@ -30,7 +39,7 @@ hasEnded source = source .ended
 abbrev pub descriptorOf : Source → ℤ
 descriptorOf source = source .fd
 
--- of what the system keeps for it: how far it has come
+-- the descriptor whose place tells how far a pipe has come; a file's own where it has places
 abbrev pub meterOf : Source → ℤ
 meterOf source = source .meter
 
@@ -38,17 +47,31 @@ meterOf source = source .meter
 abbrev pub mostHanded : ℕ
 mostHanded = 2 ^ 63
 
--- nothing has been handed over; which place is watched is not said
-pub record JustOpened (source : Source) : Type 0 where
+-- a text that has, at the place watched, what was watched there; whichever place that is
+abbrev pub Watched : Watch → List ℕ → Type 0
+Watched w text = w ≡ watchOn (watchAt (placeOf w)) text
+
+-- under this name, and nothing has been handed over; which place is watched is not said
+pub record JustOpened (path : List ℕ) (source : Source) : Type 0 where
+  pub name : Watched (nameOf source) path
   pub descriptor : T (nonNeg (descriptorOf source))
   pub meter : T (nonNeg (meterOf source))
   pub total : handedBy source ≡ 0
   pub watch : watchOf source ≡ watchAt (placeOf (watchOf source))
   pub ended : hasEnded source ≡ false
 
-abbrev pub AsOpened : Readable → Type 0
-AsOpened (opened.At source) = JustOpened source
-AsOpened opened.Failed = Unit {0}
+abbrev pub AsOpened : List ℕ → Readable → Type 0
+AsOpened path (opened.At source) = JustOpened path source
+AsOpened path (opened.Failed failure) = Watched (nameIn failure) path
+
+-- these bytes were handed over: they are counted and watched; and the end was met or not
+pub record GoneOn (before : Source) (bytes : List ℕ) (end : Bool) (after : Source) : Type 0 where
+  pub total : handedBy after ≡ handedBy before + length bytes
+  pub watch : watchOf after ≡ watchOn (watchOf before) bytes
+  pub ended : hasEnded after ≡ end
+  pub descriptor : descriptorOf after ≡ descriptorOf before
+  pub meter : meterOf after ≡ meterOf before
+  pub name : nameOf after ≡ nameOf before
 
 -- so many bytes were handed over into the buffer: they are counted and watched, and the end was met where they do not fill it
 pub record ReadFurther (before : Source) (n : ℕ) (buffer : List ℕ) (after : Source) : Type 0 where
@@ -59,14 +82,15 @@ pub record ReadFurther (before : Source) (n : ℕ) (buffer : List ℕ) (after : 
   pub ended : hasEnded after ≡ ltb n (length buffer)
   pub descriptor : descriptorOf after ≡ descriptorOf before
   pub meter : meterOf after ≡ meterOf before
+  pub name : nameOf after ≡ nameOf before
 
 abbrev pub AsFilled : Source → List ℕ → Filled → Type 0
 AsFilled before buffer (filled.Bytes after n) = ReadFurther before n buffer after
-AsFilled before buffer filled.Failed = Unit {0}
+AsFilled before buffer (filled.Failed failure) = nameIn failure ≡ nameOf before
 
--- a text that has, at the place watched, what was handed over since the source was opened; whichever place that is
+-- this text was handed over since the source was opened
 abbrev pub HandedOver : Source → List ℕ → Type 0
-HandedOver source text = watchOf source ≡ watchOn (watchAt (placeOf (watchOf source))) text
+HandedOver source text = Watched (watchOf source) text
 
 -- a file that is read at once: these bytes of the buffer are what was handed over since it was opened
 pub record FileRead (buffer : List ℕ) (source : Source) (n : ℕ) : Type 0 where
@@ -76,4 +100,4 @@ pub record FileRead (buffer : List ℕ) (source : Source) (n : ℕ) : Type 0 whe
 
 abbrev pub AsFile : List ℕ → Filled → Type 0
 AsFile buffer (filled.Bytes source n) = FileRead buffer source n
-AsFile buffer filled.Failed = Unit {0}
+AsFile buffer (filled.Failed failure) = Unit {0}

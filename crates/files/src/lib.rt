@@ -1,3 +1,2 @@
-// Files by name, for the programs: read whole, written whole. What cannot be opened, read or written is named on standard error.
-pub mod handing;
+// Files by name, for the programs, read into lent buffers. What cannot be opened or read is named on standard error.
 pub mod taking;

@@ -1,10 +1,13 @@
 // Files read into lent buffers.
 ghost use mathlib.Core.Path.{_≡_};
 ghost use Prim.Native.Nat.{_+_, _-_, _≤_, _<_};
+ghost use lib.Dec.{T};
+ghost use lib.IntN.{pos};
 ghost use lib.ListN.{length};
+ghost use lib.Signed.{nonNeg};
 ghost use Rattle.io.specs.Counts.{Counts};
 ghost use Rattle.files.specs.Counted.{Counted};
-ghost use Rattle.files.specs.Sources.{handedBy, hasEnded, watchOf, mostHanded, AsOpened, AsFilled, AsFile};
+ghost use Rattle.files.specs.Sources.{handedBy, hasEnded, watchOf, mostHanded, nameOf, nameIn, JustOpened, AsOpened, GoneOn, AsFilled, AsFile};
 use libc::ESPIPE;
 use libc::SEEK_CUR;
 use libc::STDERR_FILENO;
@@ -20,8 +23,10 @@ enum Taken {
 // else knows.
 pub struct Source {
     fd: i32,
-    // a descriptor whose place tells what a pipe has handed over; its own where it has places
+    // a descriptor whose place tells how much a pipe has handed over; where the file has places, `fd` itself
     meter: i32,
+    // the name that it was opened under, watched
+    name: Watch,
     // bytes handed over so far
     total: u64,
     // and watched
@@ -30,16 +35,22 @@ pub struct Source {
     ended: bool,
 }
 
-// A source; or the file could not be opened, and that was said.
-pub enum Readable {
-    At(Source),
-    Failed,
+// A file of this name could not be read, and that was said; of none where a word gave no name. Only this room can make one: who hands one on was handed it
+// here.
+pub struct Failure {
+    name: Watch,
 }
 
-// The source after a filling, and how many bytes it handed over; or reading failed, that was said, and the source is closed.
+// A source; or the file could not be opened.
+pub enum Readable {
+    At(Source),
+    Failed(Failure),
+}
+
+// The source after a filling, and how many bytes it handed over; or reading failed, and the source is closed.
 pub enum Filled {
     Bytes(Source, usize),
-    Failed,
+    Failed(Failure),
 }
 
 fn say_endless(path: &[u8]) {
@@ -53,7 +64,7 @@ fn has_places(fd: i32) -> bool {
     libc::pread(fd, &mut none[..0], 0) >= 0 || os::errno() != ESPIPE
 }
 
-// What tells how far a source has come that has no places: the system keeps it, so that no copy of the source takes it back. Below zero where there is none,
+// What tells how far a source without places has come: the system keeps it, so that no copy of the source takes it back. Below zero where there is none,
 // and that was said.
 fn meter(fd: i32, path: &[u8]) -> i32 {
     if has_places(fd) {
@@ -70,14 +81,23 @@ fn meter(fd: i32, path: &[u8]) -> i32 {
     meter
 }
 
+// The next bytes of a pipe that stands at the place asked for, and a failure where it stands elsewhere.
+fn read_standing(fd: i32, stands: i64, place: u64, buf: &mut [u8]) -> isize
+    requires { ⌜ place < mostHanded ⌝ }
+    ensures { λ r. ⌜ (T (nonNeg r) → stands ≡ pos place) ⌝ }
+{
+    if stands != place as i64 {
+        return -1;
+    }
+    libc::read(fd, buf)
+}
+
 // A pipe hands over each byte once: to the source that counts all before it, and to no older copy of that source.
 fn read_next(fd: i32, meter: i32, place: u64, buf: &mut [u8]) -> isize
     requires { ⌜ place < mostHanded ⌝ }
 {
-    if libc::lseek(meter, 0, SEEK_CUR) != place as i64 {
-        return -1;
-    }
-    let got = libc::read(fd, buf);
+    let stands = libc::lseek(meter, 0, SEEK_CUR);
+    let got = read_standing(fd, stands, place, buf);
     if got > 0 {
         libc::lseek(meter, got as i64, SEEK_CUR);
     }
@@ -98,6 +118,19 @@ fn read_at(fd: i32, meter: i32, place: u64, buf: &mut [u8]) -> isize
     got
 }
 
+// What one reading at a place brings; nothing at the end.
+fn read_once(fd: i32, meter: i32, place: u64, path: &[u8], buf: &mut [u8]) -> Taken
+    requires { ⌜ place < mostHanded ⌝ }
+    ensures { λ r. ⌜ Counted r (length (now (buf .exit))) ⌝ }
+{
+    let got = read_at(fd, meter, place, buf);
+    if got < 0 {
+        os::fail(path);
+        return Taken::Failed;
+    }
+    Taken::Bytes(io::count(got, buf))
+}
+
 // Reads on from a place until the buffer is full or the file ends.
 fn read_into(fd: i32, meter: i32, from: u64, path: &[u8], buf: &mut [u8]) -> Taken
     requires { ⌜ from + length (now buf) ≤ mostHanded ⌝ }
@@ -105,12 +138,10 @@ fn read_into(fd: i32, meter: i32, from: u64, path: &[u8], buf: &mut [u8]) -> Tak
 {
     let mut done: usize = 0;
     while done < buf.len() {
-        let got = read_at(fd, meter, from + done as u64, &mut buf[done..]);
-        if got < 0 {
-            os::fail(path);
+        let taken = read_once(fd, meter, from + done as u64, path, &mut buf[done..]);
+        let Taken::Bytes(more) = taken else {
             return Taken::Failed;
-        }
-        let more = io::count(got, &buf[done..]);
+        };
         if more == 0 {
             break;
         }
@@ -127,21 +158,23 @@ impl Source {
 
     // The file of that name, open for reading.
     pub fn open(path: &[u8]) -> Readable
-        ensures { λ r. ⌜ AsOpened r ⌝ }
+        ensures { λ r. ⌜ AsOpened (now (path .entry)) r ⌝ }
     {
+        let name = Watch::at(Source::WATCHED).on(path);
         let fd = os::open_read(path);
         if fd < 0 {
             os::fail(path);
-            return Readable::Failed;
+            return Readable::Failed(Failure { name });
         }
         let meter = meter(fd, path);
         if meter < 0 {
             libc::close(fd);
-            return Readable::Failed;
+            return Readable::Failed(Failure { name });
         }
         Readable::At(Source {
             fd,
             meter,
+            name,
             total: 0,
             watch: Watch::at(Source::WATCHED),
             ended: false,
@@ -158,31 +191,48 @@ impl Source {
         Source::MOST - self.total
     }
 
-    // The next bytes, as many as the buffer takes.
+    // Reading failed, and it is closed.
+    fn failed(self) -> Failure
+        ensures { λ r. ⌜ nameIn r ≡ nameOf self ⌝ }
+    {
+        self.close();
+        let under = self.name;
+        Failure { name: under }
+    }
+
+    // It handed over these bytes, and met the end or not.
+    fn after(self, bytes: &[u8], ended: bool) -> Source
+        requires { ⌜ handedBy self + length (now bytes) < mostHanded ⌝ }
+        ensures { λ r. ⌜ GoneOn self (now (bytes .entry)) ended r ⌝ }
+    {
+        let name = self.name;
+        let before = self.watch;
+        let watch = before.on(bytes);
+        let total = self.total + bytes.len() as u64;
+        Source {
+            fd: self.fd,
+            meter: self.meter,
+            name,
+            total,
+            watch,
+            ended,
+        }
+    }
+
+    // The next bytes, as many as the buffer takes. The path is for what is said.
     pub fn fill(self, path: &[u8], buf: &mut [u8]) -> Filled
         ensures { λ r. ⌜ AsFilled self (now (buf .exit)) r ⌝ }
     {
         if buf.len() as u64 >= self.left() {
             say_endless(path);
-            self.close();
-            return Filled::Failed;
+            return Filled::Failed(self.failed());
         }
         let taken = read_into(self.fd, self.meter, self.total, path, buf);
         let Taken::Bytes(n) = taken else {
-            self.close();
-            return Filled::Failed;
+            return Filled::Failed(self.failed());
         };
-        let before = self.watch;
-        let watch = before.on(&buf[..n]);
-        let total = self.total + n as u64;
-        let after = Source {
-            fd: self.fd,
-            meter: self.meter,
-            total,
-            watch,
-            ended: n < buf.len(),
-        };
-        Filled::Bytes(after, n)
+        let ended = n < buf.len();
+        Filled::Bytes(self.after(&buf[..n], ended), n)
     }
 
     // What watches the bytes that it hands over.
@@ -221,6 +271,28 @@ pub fn name(word: usize, path: &mut [u8]) -> usize
     length
 }
 
+// As much as the buffer takes; then the source is closed.
+fn at_once(source: Source, path: &[u8], buf: &mut [u8]) -> Filled
+    requires { ⌜ JustOpened (now path) source ⌝ }
+    ensures { λ r. ⌜ AsFile (now (buf .exit)) r ⌝ }
+{
+    let filled = source.fill(path, buf);
+    if let Filled::Bytes(after, _) = filled {
+        after.close();
+    }
+    filled
+}
+
+// The file of that name, as much of it as the buffer takes.
+fn file_named(path: &[u8], buf: &mut [u8]) -> Filled
+    ensures { λ r. ⌜ AsFile (now (buf .exit)) r ⌝ }
+{
+    match Source::open(path) {
+        Readable::At(source) => at_once(source, path, buf),
+        Readable::Failed(failure) => Filled::Failed(failure),
+    }
+}
+
 // The file that a word of the call names, as much of it as the buffer takes.
 pub fn file(word: usize, buf: &mut [u8]) -> Filled
     ensures { λ r. ⌜ AsFile (now (buf .exit)) r ⌝ }
@@ -228,16 +300,9 @@ pub fn file(word: usize, buf: &mut [u8]) -> Filled
     let mut path = io::buffer();
     let length = name(word, &mut path);
     if length == 0 {
-        return Filled::Failed;
+        return Filled::Failed(Failure {
+            name: Watch::at(Source::WATCHED),
+        });
     }
-    let opened = Source::open(&path[..length]);
-    let Readable::At(source) = opened else {
-        return Filled::Failed;
-    };
-    let filled = source.fill(&path[..length], buf);
-    let Filled::Bytes(after, n) = filled else {
-        return Filled::Failed;
-    };
-    after.close();
-    Filled::Bytes(after, n)
+    file_named(&path[..length], buf)
 }

@@ -11,17 +11,15 @@ use Rattle.paper.proofs.record.Kind as kind
 use Rattle.paper.specs.declared.ledger.Cell.{Cell}
 use Rattle.paper.specs.declared.record.Kind.{Kind}
 use Rattle.paper.specs.declared.record.Kind.the-variants.{Individual}
-use Rattle.paper.specs.Fields.{field}
-use Rattle.paper.specs.Entities.{entity}
 use Rattle.paper.specs.Kinds.{kindOf, codeOf, collects}
-use Rattle.paper.specs.Records.{amountOf}
+use Rattle.paper.specs.Records.{amountOf, destinationIn, senderIn}
 use Rattle.paper.specs.Reading.{parts, recordsOf}
 use Rattle.paper.specs.Postings.{Posting, posting, postedBy, ownPostings}
 use Rattle.paper.specs.Sessions.{zeroCell, cellsAfter}
 use Rattle.paper.proofs.Lists.{length-parts}
 use Rattle.paper.proofs.Places.{parts-from}
-use Rattle.record.proofs.Arms.{in-kinds}
-use Rattle.state.specs.States.{recordAt}
+use Rattle.field.proofs.Arms.{in-kinds}
+use Rattle.field.specs.Places.{recordAt}
 use Rattle.ledger.specs.Sides.{side}
 use Rattle.ledger.proofs.Cells.{cells-append, cells-none, posted}
 
@@ -35,25 +33,25 @@ none-left file i cs l = rw (drop-of-length-le (parts 94 (length file / 94) file)
 
 -- the record at place i
 module _ (file : List ℕ) (i : ℕ) (cs : List Cell) (r : List ℕ) (here : r ≡ recordAt file i) (l : i < length file / 94) where
-  go-on : {ps : List Posting} → ps ≡ postedBy (kindOf r) (entity (field r 80 87)) r → from file i cs ≡ from file (i + 1) (cellsAfter 0 ps cs)
+  go-on : {ps : List Posting} → ps ≡ postedBy (kindOf r) (senderIn r) r → from file i cs ≡ from file (i + 1) (cellsAfter 0 ps cs)
   unfolding recordAt recordsOf ownPostings
   go-on e =
       let k : i + 1 ≡ suc i = omega arith in
-      rw (k, parts-from 94 (length file / 94) file i l, ← here, e) (cells-append 0 (postedBy (kindOf r) (entity (field r 80 87)) r) _ cs)
+      rw (k, parts-from 94 (length file / 94) file i l, ← here, e) (cells-append 0 (postedBy (kindOf r) (senderIn r) r) _ cs)
 
   -- one of another kind posts nothing
   pub passes : {k : Kind} → k ≡ kindOf r → OneOf (0 ∷ 1 ∷ 3 ∷ 4 ∷ 5 ∷ 6 ∷ []) (tagOf kind.the-type k) → from file i cs ≡ from file (i + 1) cs
   unfolding postedBy
   passes {k} e o =
-      let none : [] ≡ postedBy k (entity (field r 80 87)) r =
-      in-kinds [] (λ k. postedBy k (entity (field r 80 87)) r) (0 ∷ 1 ∷ 3 ∷ 4 ∷ 5 ∷ 6 ∷ []) (refl, (refl, (refl, (refl, (refl, (refl, tt)))))) k o in
+      let none : [] ≡ postedBy k (senderIn r) r =
+      in-kinds [] (λ k. postedBy k (senderIn r) r) (0 ∷ 1 ∷ 3 ∷ 4 ∷ 5 ∷ 6 ∷ []) (refl, (refl, (refl, (refl, (refl, (refl, tt)))))) k o in
       go-on (rw (← e) none) ∙ ap (from file (i + 1)) (cells-none 0 cs)
 
   -- an individual record posts both its sides
-  pub posts : {s d a : ℕ} {b : Bool} {x y : Cell} → Individual ≡ kindOf r → s ≡ entity (field r 80 87) → d ≡ entity (field r 4 11) → b ≡ collects (codeOf r) → a ≡ amountOf r
+  pub posts : {s d a : ℕ} {b : Bool} {x y : Cell} → Individual ≡ kindOf r → s ≡ senderIn r → d ≡ destinationIn r → b ≡ collects (codeOf r) → a ≡ amountOf r
       → x ≡ side b a 1 0 (getD cs s zeroCell) → y ≡ side (not b) a 0 1 (getD (set cs s x) d zeroCell)
       → from file i cs ≡ from file (i + 1) (set (set cs s x) d y)
   unfolding postedBy posting
   posts k s d b a x y =
-      go-on {ps = posting (entity (field r 80 87)) r ∷ []} (rw (← k))
-      ∙ ap (from file (i + 1)) (posted (posting (entity (field r 80 87)) r) cs ∙ rw (y, x, s, d, b, a))
+      go-on {ps = posting (senderIn r) r ∷ []} (rw (← k))
+      ∙ ap (from file (i + 1)) (posted (posting (senderIn r) r) cs ∙ rw (y, x, s, d, b, a))

@@ -12,9 +12,9 @@ ghost use Rattle.paper.specs.Postings.{ownPostings, signed};
 ghost use Rattle.paper.specs.Sessions.{zeroCell, cellsAfter};
 ghost use Rattle.paper.specs.Demands.{Touched, sessionSides};
 ghost use Rattle.ledger.specs.Sides.{side, sidesInAll};
-use entries::individual;
-use field::entity;
+use field::individual;
 use field::kind;
+use field::place;
 use paper::ledger::Cell;
 use paper::record::Kind;
 use paper::rules::Rules;
@@ -103,19 +103,19 @@ pub fn post(cells: [Cell; Rules::ROSTER], file: &[u8], records: usize) -> [Cell;
     let mut after = cells;
     let mut place: usize = 0;
     while place < records {
-        let rec = state::record_at(file, place);
+        let rec = place::record_at(file, place);
+        place += 1;
         let kind = kind::kind(rec);
         if let Kind::Individual = kind {
             let collects = collects(rec);
             let amount = individual::amount(rec);
-            let sender = entity::entity(rec, 80, 87) as usize;
+            let sender = individual::sender(rec) as usize;
             let c = after[sender];
             after[sender] = sender_side(c, collects, amount);
-            let destination = entity::entity(rec, 4, 11) as usize;
+            let destination = individual::destination(rec) as usize;
             let d = after[destination];
             after[destination] = destination_side(d, collects, amount);
         }
-        place += 1;
     }
     after
 }

@@ -1,18 +1,17 @@
 -- What the program takes from its input.
-use Prim.Native.Nat.{ℕ, suc, _+_, _≤_, _<_}
+use Prim.Native.Nat.{ℕ, _≤_, _<_}
 use mathlib.Core.Bool.{true, false}
-use mathlib.Core.List.{List, _∷_, [], _++_}
+use mathlib.Core.List.{List}
 use mathlib.Core.Path.{_≡_, sym, ap, _∙_}
-use native.Mathlib.Numerals.{add-one}
 use native.Mathlib.Omega.{arith}
 use borrow.Author.Tests.{le-leb, lt-leb}
-use lib.ListN.{length, take, drop, set}
-use lib.Seq.{take-suc-set, take-all, take-take}
+use lib.ListN.{length, drop}
+use lib.Seq.{take-take}
 use Rattle.paper.specs.declared.rules.Currency.the-variants.{Pesos, Dollars}
 use Rattle.paper.specs.Fields.{field, within, number}
 use Rattle.paper.specs.Dates.{dateField}
 use Rattle.paper.specs.Entities.{entityValue, ofCurrency}
-use Rattle.paper.specs.Listing.{hasHeader, dateIn, currencyIn, numbersTo}
+use Rattle.paper.specs.Listing.{hasHeader, dateIn, currencyIn}
 
 module _ (file : List ℕ) where
   pub no-date : length file < 94 → 101 ≡ dateIn file
@@ -43,19 +42,3 @@ module _ (file : List ℕ) where
   pub in-pesos : 94 ≤ length file → ofCurrency Dollars (field file 15 22) ≡ false → Pesos ≡ currencyIn file
   unfolding currencyIn hasHeader
   in-pesos h d = rw (le-leb 94 (length file) h, sym in-15-18 ∙ d)
-
--- the first i of 499 numbers are written
-abbrev pub Numbered : List ℕ → ℕ → Type 0
-Numbered entities i = (i ≤ 499) × (length entities ≡ 499) × (take i entities ≡ numbersTo i)
-
-module _ (entities : List ℕ) (i : ℕ) (k : Numbered entities i) where
-  pub number-turn : i < 499 → take (i + 1) (set entities i (i + 1)) ≡ numbersTo (i + 1)
-  unfolding numbersTo
-  number-turn h =
-      let e = add-one i in
-      ap (λ (n : ℕ). take n (set entities i n)) e ∙ (take-suc-set entities i (suc i) (omega (arith, k .1)) ∙ (ap (λ (l : List ℕ). l ++ suc i ∷ []) (k .2) ∙ ap numbersTo (sym e)))
-
-  pub number-end : 499 ≤ i → entities ≡ numbersTo 499
-  number-end h =
-      let e : i ≡ 499 = omega (arith, k .0) in
-      sym (take-all i entities (omega (arith, k .1))) ∙ (k .2 ∙ ap numbersTo e)

@@ -10,7 +10,7 @@ use paper::answer::Answer;
 use paper::answer::Output;
 
 // Of a file read or presented.
-pub fn answer(answer: Answer, out: &mut [u8; Listing::ROOM]) -> usize
+pub fn answer(answer: Answer, out: &mut [u8; Listing::LINE]) -> usize
     ensures { λ r. ⌜ Written (answerLine (said answer)) r (now (out .entry)) (now (out .exit)) ⌝ }
 {
     match answer {
@@ -20,7 +20,7 @@ pub fn answer(answer: Answer, out: &mut [u8; Listing::ROOM]) -> usize
 }
 
 // Of a job that writes, with the number of bytes.
-pub fn output(output: Output, out: &mut [u8; Listing::ROOM]) -> usize
+pub fn output(output: Output, out: &mut [u8; Listing::LINE]) -> usize
     ensures { λ r. ⌜ Written (outputLine (told output [])) r (now (out .entry)) (now (out .exit)) ⌝ }
 {
     match output {
@@ -34,7 +34,7 @@ pub fn output(output: Output, out: &mut [u8; Listing::ROOM]) -> usize
 }
 
 // Of an opening: nothing where it is accepted.
-pub fn opening(answer: Answer, out: &mut [u8; Listing::ROOM]) -> usize
+pub fn opening(answer: Answer, out: &mut [u8; Listing::LINE]) -> usize
     ensures { λ r. ⌜ Written (openingLine (said answer)) r (now (out .entry)) (now (out .exit)) ⌝ }
 {
     match answer {

@@ -1,11 +1,10 @@
-// What the program takes from its one file: the date, the currency, and every entity on the roster.
+// What the program takes from its one file: the date and the currency.
 ghost use mathlib.Core.Path.{_≡_};
-ghost use Rattle.paper.specs.Listing.{dateIn, currencyIn, numbersTo};
-use crate::Listing;
+ghost use Rattle.paper.specs.Listing.{dateIn, currencyIn};
+use characters::number;
 use desk::Session;
 use field::date;
 use field::entity;
-use field::number;
 use paper::rules::Currency;
 
 // The header's date, or 000101 if that is none.
@@ -32,17 +31,4 @@ pub fn currency(file: &[u8]) -> Currency
         return Currency::Dollars;
     }
     Currency::Pesos
-}
-
-// 1 to 499.
-pub fn everyone() -> [u64; Listing::ENTITIES]
-    ensures { λ r. ⌜ r ≡ numbersTo 499 ⌝ }
-{
-    let mut entities = [0u64; Listing::ENTITIES];
-    let mut i: usize = 0;
-    while i < Listing::ENTITIES {
-        entities[i] = i as u64 + 1;
-        i += 1;
-    }
-    entities
 }

@@ -1,10 +1,8 @@
-// What the desk prints: the listing of a session, or a refusal.
-ghost use Rattle.paper.specs.Answers.{said};
-ghost use Rattle.paper.specs.Listing.{printed, positionsOf};
+// What the desk prints: the listing of a session, or the line of an answer.
+ghost use Rattle.paper.specs.Listing.{listing, positionsOf};
 ghost use Rattle.desk.specs.Standing.{standing};
 ghost use Rattle.desk.specs.Calls.{Reachable};
 ghost use Rattle.listing.specs.Room.{Written};
-use desk::Reply;
 use desk::Session;
 use paper::answer::Answer;
 use paper::answer::Fault;
@@ -19,27 +17,20 @@ pub struct Listing;
 impl Listing {
     // Bytes of the program's input, at most.
     pub const INPUT: usize = 65424;
-    // Lines of entities, at most.
-    pub const ENTITIES: usize = Session::LAST as usize;
     // Bytes of the heading.
     const HEADING: usize = 25;
     // Bytes of a line, at most.
-    const LINE: usize = 67;
+    pub const LINE: usize = 67;
     // The longest listing: the heading, a line for each entity, and one for the sums in place of number 0.
     pub const ROOM: usize = Listing::HEADING + Session::ROSTER * Listing::LINE;
 }
 
-// The session's listing where the answer is acceptance, else the refusal.
-pub fn print(reply: Reply, out: &mut [u8; Listing::ROOM]) -> usize
-    requires { ⌜ Reachable (reply .session) ⌝ }
-    ensures { λ r. ⌜ Written (printed (said (reply .answer)) (standing (reply .session) .cells)) r (now (out .entry)) (now (out .exit)) ⌝ }
+// The listing of a session.
+pub fn print(session: Session, out: &mut [u8; Listing::ROOM]) -> usize
+    requires { ⌜ Reachable session ⌝ }
+    ensures { λ r. ⌜ Written (listing (standing session .cells)) r (now (out .entry)) (now (out .exit)) ⌝ }
 {
-    let answer = reply.answer;
-    let session = reply.session;
-    match answer {
-        Answer::Accepted => lines::write(session.cells(), out),
-        Answer::Refused(fault, place) => lines::refusal(out, 0, fault.number(), place as u64),
-    }
+    lines::write(session.cells(), out)
 }
 
 // What the program `positions` prints for its input.
@@ -49,8 +40,16 @@ pub fn positions(input: &[u8], out: &mut [u8; Listing::ROOM]) -> usize
     if Listing::INPUT < input.len() {
         return lines::refusal(out, 0, Fault::Length.number(), 0);
     }
-    let everyone = input::everyone();
-    let opened = Session::open(input::date(input), input::currency(input), &everyone);
+    let everybody = Session::everybody();
+    let opened = Session::open(input::date(input), input::currency(input), &everybody);
     let session = opened.session;
-    print(session.present(input), out)
+    let reply = session.present(input);
+    let answer = reply.answer;
+    match answer {
+        Answer::Accepted => {
+            let presented = reply.session;
+            print(presented, out)
+        }
+        Answer::Refused(fault, place) => lines::refusal(out, 0, fault.number(), place as u64),
+    }
 }

@@ -11,6 +11,7 @@ ghost use Rattle.paper.specs.Sessions.{zeroCell};
 ghost use Rattle.listing.specs.Room.{HasRoom, Written};
 ghost use Rattle.writing.specs.Laid.{laid};
 use crate::Listing;
+use desk::Session;
 use paper::ledger::Cell;
 use paper::rules::Rules;
 
@@ -76,7 +77,7 @@ pub fn write(cells: [Cell; Rules::ROSTER], out: &mut [u8; Listing::ROOM]) -> usi
     let mut at = writing::text(out, 0, b"ENTITY SENT RECEIVED NET\n");
     let mut sums = Cell::ZERO;
     let mut n: usize = 0;
-    while n < Listing::ENTITIES {
+    while n < Session::EVERYBODY {
         n += 1;
         let c = cells[n];
         at = entity(out, at, n as u64, c);
@@ -87,8 +88,8 @@ pub fn write(cells: [Cell; Rules::ROSTER], out: &mut [u8; Listing::ROOM]) -> usi
 }
 
 // The line that stands in place of a listing.
-pub fn refusal(out: &mut [u8; Listing::ROOM], at: usize, number: u64, place: u64) -> usize
-    requires { ⌜ HasRoom at 53 ⌝ }
+pub fn refusal(out: &mut [u8], at: usize, number: u64, place: u64) -> usize
+    requires { ⌜ at + 53 ≤ length (now out) ⌝ }
     ensures { λ r. ⌜ (r ≡ at + length (refusalLine number place)) × (now (out .exit) ≡ laid at (refusalLine number place) (now (out .entry))) ⌝ }
 {
     let word = writing::text(out, at, b"REFUSED ");

@@ -10,10 +10,10 @@ use lib.ListN.{length, take, drop}
 use Rattle.paper.specs.declared.record.Before.{Before}
 use Rattle.paper.specs.declared.record.Before.the-variants.{Nothing, Between, Opened, Flagged, Inside, Ended}
 use Rattle.paper.specs.declared.record.Kind.{Kind}
-use Rattle.paper.specs.declared.record.Kind.the-variants.{FileHeader, BatchHeader, Individual, Additional, BatchControl, FileControl, Other}
+use Rattle.paper.specs.declared.record.Kind.the-variants.{FileHeader, BatchHeader, Individual, Additional, BatchControl, FileControl}
 use Rattle.paper.specs.declared.rules.Rules.{Rules}
 use Rattle.paper.specs.Answers.{accepted}
-use Rattle.paper.specs.Checks.{fine, _also_}
+use Rattle.paper.specs.Checks.{wrong, fine, _also_}
 use Rattle.paper.specs.Fields.{field, within, every, good, digits, same, is, spells}
 use Rattle.paper.specs.Dates.{dateField}
 use Rattle.paper.specs.Entities.{ofCurrency, entityField, onRoster}
@@ -24,6 +24,7 @@ use Rattle.paper.specs.Controls.{batchControl, blocks, fileControl}
 use Rattle.paper.specs.Reading.{State, start, fields, judged, at, parts, recordsOf, lengthGood, reading}
 use Rattle.paper.specs.Writing.{joined}
 use Rattle.paper.specs.Demands.{Faultless}
+use Rattle.paper.proofs.Types.{each-kind}
 use Rattle.paper.proofs.Tests.{and-l, and-r, within-range}
 use Rattle.paper.proofs.Lists.{Sized, joined-parts, sized-parts}
 use Rattle.paper.proofs.Exactly.{also-l, also-r, need-T, wrong-not-fine, accepted-exactly}
@@ -95,44 +96,18 @@ pub data Follows : Before → Kind → Type 0 where
   next-individual : Follows Inside Individual
   batch-closes : Follows Inside BatchControl
 
+no : {A : Type 0} {n : ℕ} → wrong n ≡ fine → A
+no h = absurd (wrong-not-fine h)
+
+-- a row for what stands before, a column for each type
 pub follows : (b : Before) (k : Kind) → allowed b k ≡ fine → Follows b k
 unfolding allowed
-follows Nothing FileHeader h = file-begins
-follows Nothing BatchHeader h = absurd (wrong-not-fine h)
-follows Nothing Individual h = absurd (wrong-not-fine h)
-follows Nothing Additional h = absurd (wrong-not-fine h)
-follows Nothing BatchControl h = absurd (wrong-not-fine h)
-follows Nothing FileControl h = absurd (wrong-not-fine h)
-follows Nothing Other h = absurd (wrong-not-fine h)
-follows Between FileHeader h = absurd (wrong-not-fine h)
-follows Between BatchHeader h = batch-opens
-follows Between Individual h = absurd (wrong-not-fine h)
-follows Between Additional h = absurd (wrong-not-fine h)
-follows Between BatchControl h = absurd (wrong-not-fine h)
-follows Between FileControl h = file-ends
-follows Between Other h = absurd (wrong-not-fine h)
-follows Opened FileHeader h = absurd (wrong-not-fine h)
-follows Opened BatchHeader h = absurd (wrong-not-fine h)
-follows Opened Individual h = first-individual
-follows Opened Additional h = absurd (wrong-not-fine h)
-follows Opened BatchControl h = absurd (wrong-not-fine h)
-follows Opened FileControl h = absurd (wrong-not-fine h)
-follows Opened Other h = absurd (wrong-not-fine h)
-follows Flagged FileHeader h = absurd (wrong-not-fine h)
-follows Flagged BatchHeader h = absurd (wrong-not-fine h)
-follows Flagged Individual h = absurd (wrong-not-fine h)
-follows Flagged Additional h = its-additional
-follows Flagged BatchControl h = absurd (wrong-not-fine h)
-follows Flagged FileControl h = absurd (wrong-not-fine h)
-follows Flagged Other h = absurd (wrong-not-fine h)
-follows Inside FileHeader h = absurd (wrong-not-fine h)
-follows Inside BatchHeader h = absurd (wrong-not-fine h)
-follows Inside Individual h = next-individual
-follows Inside Additional h = absurd (wrong-not-fine h)
-follows Inside BatchControl h = batch-closes
-follows Inside FileControl h = absurd (wrong-not-fine h)
-follows Inside Other h = absurd (wrong-not-fine h)
-follows Ended k h = absurd (wrong-not-fine h)
+follows Nothing = each-kind (λ k. allowed Nothing k ≡ fine → Follows Nothing k) (λ h. file-begins) no no no no no no
+follows Between = each-kind (λ k. allowed Between k ≡ fine → Follows Between k) no (λ h. batch-opens) no no no (λ h. file-ends) no
+follows Opened = each-kind (λ k. allowed Opened k ≡ fine → Follows Opened k) no no (λ h. first-individual) no no no no
+follows Flagged = each-kind (λ k. allowed Flagged k ≡ fine → Follows Flagged k) no no no (λ h. its-additional) no no no
+follows Inside = each-kind (λ k. allowed Inside k ≡ fine → Follows Inside k) no no (λ h. next-individual) no (λ h. batch-closes) no no
+follows Ended = λ k. no
 
 pub record Judged (rules : Rules) (s : State) (r : List ℕ) : Type 0 where
   pub good : T (every good r)

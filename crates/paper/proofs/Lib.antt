@@ -1,3 +1,4 @@
+pub mod Types
 pub mod Tests
 pub mod Refusals
 pub mod Marked

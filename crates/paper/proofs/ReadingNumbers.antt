@@ -20,6 +20,7 @@ use Rattle.paper.specs.declared.record.Tally.{Tally}
 use Rattle.paper.specs.Controls.{batchControl, fileControl}
 use Rattle.paper.specs.Reading.{State, start, next, fields, judged, recordsOf, lengthGood, reading}
 use Rattle.paper.specs.Demands.{FirstFault}
+use Rattle.paper.proofs.Types.{each-kind}
 use Rattle.paper.proofs.Exactly.{refused-exactly}
 
 abbrev pub recordNumbers : List ℕ
@@ -77,15 +78,6 @@ fields-named FileControl rules s r = total-named _ (s .counts .batches) (s .coun
 fields-named Other rules s r = tt
 
 -- what may stand after what, column by column
-each-kind : (P : Kind → Type 0) → P FileHeader → P BatchHeader → P Individual → P Additional → P BatchControl → P FileControl → P Other → (k : Kind) → P k
-each-kind P h b i a c f o FileHeader = h
-each-kind P h b i a c f o BatchHeader = b
-each-kind P h b i a c f o Individual = i
-each-kind P h b i a c f o Additional = a
-each-kind P h b i a c f o BatchControl = c
-each-kind P h b i a c f o FileControl = f
-each-kind P h b i a c f o Other = o
-
 allowed-named : (b : Before) (k : Kind) → Named (allowed b k)
 unfolding allowed Named among
 allowed-named Nothing = each-kind (λ k. Named (allowed Nothing k)) tt tt tt tt tt tt tt

@@ -16,8 +16,8 @@ use Rattle.paper.specs.declared.record.Kind.the-variants.{FileHeader, Ba
 use Rattle.paper.specs.Answers.{Said, accepted, refused, tableNumbers}
 use Rattle.paper.specs.Checks.{fine, wrong}
 use Rattle.paper.specs.Fields.{field, within, among}
-use Rattle.paper.specs.Entities.{entity}
 use Rattle.paper.specs.Kinds.{kindOf}
+use Rattle.paper.specs.Records.{destinationIn, senderIn}
 use Rattle.paper.specs.Reading.{State, start, judged, next, recordsOf, lengthGood}
 use Rattle.paper.specs.Postings.{Posting, postings, position, sent, received}
 use Rattle.paper.specs.Sessions.{Session, opening, presenting, originOf, identifierOf}
@@ -135,7 +135,7 @@ allRecords (f ∷ fs) = recordsOf f ++ allRecords fs
 unfoldable pub names : Kind → ℕ → List ℕ → Bool
 names FileHeader e r = false
 names BatchHeader e r = false
-names Individual e r = eqb e (entity (field r 80 87)) || eqb e (entity (field r 4 11))
+names Individual e r = eqb e (senderIn r) || eqb e (destinationIn r)
 names Additional e r = false
 names BatchControl e r = false
 names FileControl e r = false
@@ -200,7 +200,7 @@ carried (r ∷ rs) = carriedBy (kindOf r) r (carried rs)
 
 -- the entity that an item is addressed to
 unfoldable pub addressee : Item → ℕ
-addressee i = entity (field (i .individual) 4 11)
+addressee i = destinationIn (i .individual)
 
 -- items dealt to entities: each in turn is the first of what its addressee, an entity on the roster, still has to get, and of nobody else's
 pub data SharedOut (roster : List Bool) : List Item → (ℕ → List Item) → Type 0 where

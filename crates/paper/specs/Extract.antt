@@ -8,8 +8,9 @@ use Rattle.paper.specs.declared.rules.Currency.{Currency}
 use Rattle.paper.specs.declared.record.Kind.{Kind}
 use Rattle.paper.specs.declared.record.Kind.the-variants.{FileHeader, BatchHeader, Individual, Additional, BatchControl, FileControl, Other}
 use Rattle.paper.specs.Fields.{bytes, field}
-use Rattle.paper.specs.Entities.{entity, currencyAdds}
+use Rattle.paper.specs.Entities.{currencyAdds}
 use Rattle.paper.specs.Kinds.{kindOf}
+use Rattle.paper.specs.Records.{destinationIn}
 use Rattle.paper.specs.Reading.{recordsOf}
 use Rattle.paper.specs.Writing.{spelled, numbered, closing}
 
@@ -47,7 +48,7 @@ batchesOf file = (grouped (recordsOf file)) .batches
 
 -- is the individual record addressed to E, at any branch?
 unfoldable pub isTo : ℕ → List ℕ → Bool
-isTo e r = eqb (entity (field r 4 11)) e
+isTo e r = eqb (destinationIn r) e
 
 unfoldable pub itemsTo : ℕ → List Item → List Item
 itemsTo e [] = []

@@ -6,10 +6,8 @@ use lib.Dec.{eqb}
 use lib.IntN.{ℤ, pos, _+ℤ_, negℤ}
 use Rattle.paper.specs.declared.record.Kind.{Kind}
 use Rattle.paper.specs.declared.record.Kind.the-variants.{FileHeader, BatchHeader, Individual, Additional, BatchControl, FileControl, Other}
-use Rattle.paper.specs.Fields.{field}
-use Rattle.paper.specs.Entities.{entity}
 use Rattle.paper.specs.Kinds.{kindOf, codeOf, collects}
-use Rattle.paper.specs.Records.{amountOf}
+use Rattle.paper.specs.Records.{amountOf, destinationIn, senderIn}
 use Rattle.paper.specs.Reading.{recordsOf}
 
 -- an individual record's sender and destination, whether the sender collects, and the amount
@@ -20,7 +18,7 @@ pub record Posting : Type 0 where
   pub amount : ℕ
 
 unfoldable pub posting : ℕ → List ℕ → Posting
-posting sender r = record { sender = sender; destination = entity (field r 4 11); collects = collects (codeOf r); amount = amountOf r }
+posting sender r = record { sender = sender; destination = destinationIn r; collects = collects (codeOf r); amount = amountOf r }
 
 -- each individual record is posted, under the sender of its batch
 unfoldable pub postedBy : Kind → ℕ → List ℕ → List Posting
@@ -34,7 +32,7 @@ postedBy Other sender r = []
 
 unfoldable pub senderAfter : Kind → ℕ → List ℕ → ℕ
 senderAfter FileHeader sender r = sender
-senderAfter BatchHeader sender r = entity (field r 80 87)
+senderAfter BatchHeader sender r = senderIn r
 senderAfter Individual sender r = sender
 senderAfter Additional sender r = sender
 senderAfter BatchControl sender r = sender
@@ -52,7 +50,7 @@ postings file = postingsFrom 0 (recordsOf file)
 -- each individual record names its sender itself, in 80-87: in an accepted file that of its batch
 unfoldable pub ownPostings : List (List ℕ) → List Posting
 ownPostings [] = []
-ownPostings (r ∷ rs) = postedBy (kindOf r) (entity (field r 80 87)) r ++ ownPostings rs
+ownPostings (r ∷ rs) = postedBy (kindOf r) (senderIn r) r ++ ownPostings rs
 
 -- who collects rises by the amount, who does not falls by it
 unfoldable pub signed : Bool → ℕ → ℤ

@@ -11,9 +11,9 @@ use Rattle.paper.specs.declared.record.Before.{Before}
 use Rattle.paper.specs.declared.record.Before.the-variants.{Nothing, Between, Opened, Flagged, Inside, Ended}
 use Rattle.paper.specs.Answers.{Said, accepted, refused, andThen, require}
 use Rattle.paper.specs.Checks.{Check, fine, wrong, need, _also_}
-use Rattle.paper.specs.Fields.{field, within, every, good, is, number}
+use Rattle.paper.specs.Fields.{field, within, every, good, number}
 use Rattle.paper.specs.Kinds.{kindOf, allowed}
-use Rattle.paper.specs.Records.{fileHeader, batchHeader, individual, additional}
+use Rattle.paper.specs.Records.{fileHeader, batchHeader, individual, additional, flaggedIn}
 use Rattle.paper.specs.declared.record.Tally.{Tally}
 use Rattle.paper.specs.Controls.{zeros, plus, withIndividual, withAdditional, batchControl, fileControl}
 
@@ -84,7 +84,7 @@ flag false = Inside
 unfoldable pub beforeNext : Kind → List ℕ → Before
 beforeNext FileHeader r = Between
 beforeNext BatchHeader r = Opened
-beforeNext Individual r = flag (is (field r 79 79) "1")
+beforeNext Individual r = flag (flaggedIn r)
 beforeNext Additional r = Inside
 beforeNext BatchControl r = Between
 beforeNext FileControl r = Ended

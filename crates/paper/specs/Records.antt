@@ -8,7 +8,7 @@ use Rattle.paper.specs.declared.rules.Rules.{Rules}
 use Rattle.paper.specs.Checks.{Check, need, _also_}
 use Rattle.paper.specs.Fields.{field, digits, blank, identifierField, same, is, number, spells}
 use Rattle.paper.specs.Dates.{dateField, timeField}
-use Rattle.paper.specs.Entities.{entityField, ofCurrency, onRoster}
+use Rattle.paper.specs.Entities.{entityField, ofCurrency, entity, onRoster}
 use Rattle.paper.specs.Kinds.{codeOf, known, isOrder, takes01, rejects}
 
 -- an entity of the session's currency, and on its roster
@@ -47,6 +47,22 @@ batchHeader rules r =
 unfoldable pub amountOf : List ℕ → ℕ
 amountOf r = number (field r 30 39)
 
+-- the entity that it is addressed to, at any branch
+abbrev pub destinationIn : List ℕ → ℕ
+destinationIn r = entity (field r 4 11)
+
+-- the sender; of a batch header too
+abbrev pub senderIn : List ℕ → ℕ
+senderIn r = entity (field r 80 87)
+
+-- of a file header: who presents it
+abbrev pub originIn : List ℕ → ℕ
+originIn r = entity (field r 15 22)
+
+-- an additional record follows
+abbrev pub flaggedIn : List ℕ → Bool
+flaggedIn r = is (field r 79 79) "1"
+
 -- the account
 unfoldable pub accountGood : List ℕ → Bool
 accountGood r = digits (field r 13 29)
@@ -57,7 +73,7 @@ informationGood r = is (field r 77 78) "00" || is (field r 77 78) "01" && takes0
 
 -- position 79 is 0 only for 37 with "00"
 unfoldable pub flagGood : List ℕ → Bool
-flagGood r = is (field r 79 79) "1" || isOrder (codeOf r) && is (field r 77 78) "00"
+flagGood r = flaggedIn r || isOrder (codeOf r) && is (field r 77 78) "00"
 
 -- 80-87 equals the sender's field, that of the batch's header, and 88-94 exceeds that of the individual record before it
 unfoldable pub counterGood : List ℕ → ℕ → List ℕ → Bool

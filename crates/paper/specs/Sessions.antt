@@ -10,9 +10,9 @@ use Rattle.paper.specs.declared.rules.Currency.{Currency}
 use Rattle.paper.specs.declared.rules.Currency.the-variants.{Pesos}
 use Rattle.paper.specs.declared.ledger.Cell.{Cell}
 use Rattle.paper.specs.Answers.{Said, accepted, refused, andThen, require}
-use Rattle.paper.specs.Fields.{field, within, among, every}
+use Rattle.paper.specs.Fields.{within, among, every}
 use Rattle.paper.specs.Dates.{isDate}
-use Rattle.paper.specs.Entities.{entity}
+use Rattle.paper.specs.Records.{originIn}
 use Rattle.paper.specs.Reading.{reading}
 use Rattle.paper.specs.Postings.{Posting, postings, position, sent, received}
 
@@ -67,7 +67,7 @@ cellOf s e = cond (within 1 499 e) (getD (s .cells) e zeroCell) zeroCell
 
 -- the origin's entity number without branch, and the identifier: 0 to 9, then A to Z, as 0 to 35
 unfoldable pub originOf : List ℕ → ℕ
-originOf file = entity (field file 15 22)
+originOf file = originIn file
 
 unfoldable pub identifierIf : Bool → ℕ → ℕ
 identifierIf true b = b - 48

@@ -1,5 +1,5 @@
 -- The pass over a file, turn by turn.
-use Prim.Native.Nat.{ℕ, _+_, _/_}
+use Prim.Native.Nat.{ℕ, _+_, _/_, _≤_}
 use mathlib.Core.Bool.{false}
 use mathlib.Core.List.{List}
 use mathlib.Core.Path.{_≡_, refl}
@@ -9,6 +9,12 @@ use Rattle.paper.specs.Buffers.{over}
 use Rattle.picking.specs.declared.Picking.{Picking}
 use Rattle.picking.specs.Notes.{isGoing, waiting, notesWith, notesAfter}
 use Rattle.picking.specs.Picks.{InHand, Moves, Picks}
+
+-- after so many of the records
+pub record Passing (e : ℕ) (file before : List ℕ) (records : ℕ) (s : Picking) (after : List ℕ) (place : ℕ) : Type 0 where
+  pub passed : place ≤ records
+  pub long : length before ≡ 10000
+  pub noted : InHand (notesAfter e file place) before s after
 
 pub begun : (e : ℕ) (file before : List ℕ) → InHand (notesAfter e file 0) before (record { count = 0; next = 0; batches = 0; mine = false }) before
 unfolding notesAfter isGoing waiting over

@@ -1,9 +1,10 @@
 -- What picking hands back: two numbers and the whole buffer.
-use Prim.Native.Nat.{ℕ, _+_, _≤_}
+use Prim.Native.Nat.{ℕ, _+_, _≤_, _<_}
 use mathlib.Core.List.{List, _++_}
 use mathlib.Core.Path.{_≡_}
 use lib.ListN.{length}
 use Rattle.paper.specs.Buffers.{over}
+use Rattle.field.specs.Places.{InFile}
 use Rattle.picking.specs.declared.Picked.{Picked}
 use Rattle.picking.specs.declared.Picking.{Picking}
 use Rattle.picking.specs.Notes.{Notes, isGoing, waiting, goesTo, headersTo, waitsAt}
@@ -14,6 +15,24 @@ pub record Fits (place : ℕ) (s : Picking) : Type 0 where
   pub one : s .next ≤ s .count + 1
   pub next : s .next ≤ place
   pub batches : s .batches ≤ s .count
+
+-- one entry of a buffer of 10,000 places
+pub record ToPut (at place : ℕ) (places : List ℕ) : Type 0 where
+  pub inside : at < 10000
+  pub few : place < 10000
+  pub long : length places ≡ 10000
+
+-- a place to be noted
+pub record ToNote (place : ℕ) (s : Picking) (places : List ℕ) : Type 0 where
+  pub fits : Fits place s
+  pub few : place < 10000
+  pub long : length places ≡ 10000
+
+-- a record to be looked at
+pub record ToStep (file : List ℕ) (place : ℕ) (s : Picking) (places : List ℕ) : Type 0 where
+  pub there : InFile file place
+  pub fits : Fits place s
+  pub long : length places ≡ 10000
 
 -- notes as the code has them: in numbers, and in a buffer's first entries; the rest of the buffer is as it was
 pub record InHand (n : Notes) (before : List ℕ) (s : Picking) (after : List ℕ) : Type 0 where

@@ -6,7 +6,7 @@ use lib.ListN.{length, getD}
 use Rattle.paper.specs.declared.rules.Rules.{Rules}
 use Rattle.paper.specs.Answers.{accepted}
 use Rattle.paper.specs.Reading.{reading}
-use Rattle.state.specs.States.{recordAt}
+use Rattle.field.specs.Places.{recordAt}
 
 -- a file that a reading accepted
 pub record Passed (file : List ℕ) : Type 0 where

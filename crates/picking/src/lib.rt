@@ -1,17 +1,17 @@
 // One pass over a file: the places of the records that go to one entity, in order.
 ghost use mathlib.Core.Path.{_≡_};
-ghost use Prim.Native.Nat.{ℕ, _<_};
+ghost use Prim.Native.Nat.{ℕ};
 ghost use mathlib.Core.List.{List};
 ghost use lib.ListN.{length, set};
 ghost use Rattle.paper.specs.Extract.{isTo};
-ghost use Rattle.state.specs.States.{InFile};
 ghost use Rattle.picking.specs.Notes.{headerWaits, recordGoes, recordPasses, notesWith};
-ghost use Rattle.picking.specs.Picks.{Fits, Moves, Picks};
+ghost use Rattle.picking.specs.Picks.{ToPut, ToNote, ToStep, Moves, Picks};
 ghost use Rattle.picking.specs.Places.{Passed};
-use field::entity;
+use field::individual;
 use field::kind;
+use field::place;
+use field::place::Record;
 use paper::record::Kind;
-use state::State;
 
 // How many records go, and how many of them are batch headers.
 pub struct Picked {
@@ -21,7 +21,7 @@ pub struct Picked {
 
 impl Picked {
     // Places, at most.
-    pub const MOST: usize = State::MOST;
+    pub const MOST: usize = Record::MOST;
 }
 
 // A batch header waits, put down after those that go, until a record of its batch goes.
@@ -39,12 +39,12 @@ fn is_to(entity: u64, rec: &[u8]) -> bool
     requires { ⌜ length (now rec) ≡ 94 ⌝ }
     ensures { λ r. ⌜ r ≡ isTo entity (now (rec .entry)) ⌝ }
 {
-    entity::entity(rec, 4, 11) == entity
+    individual::destination(rec) == entity
 }
 
 // One entry, and no other.
 fn note(places: &mut [u16], at: usize, place: usize)
-    requires { ⌜ (at < 10000) × (place < 10000) × (length (now places) ≡ 10000) ⌝ }
+    requires { ⌜ ToPut at place (now places) ⌝ }
     ensures { λ _. ⌜ now (places .exit) ≡ set (now (places .entry)) at place ⌝ }
 {
     places[at] = place as u16;
@@ -52,7 +52,7 @@ fn note(places: &mut [u16], at: usize, place: usize)
 
 // A batch header waits behind those that go.
 fn waits(picking: Picking, places: &mut [u16], place: usize) -> Picking
-    requires { ⌜ Fits place picking × (place < 10000) × (length (now places) ≡ 10000) ⌝ }
+    requires { ⌜ ToNote place picking (now places) ⌝ }
     ensures { λ r. ⌜ Moves (headerWaits place) (now (places .entry)) picking (now (places .exit)) r ⌝ }
 {
     let count = picking.count;
@@ -67,7 +67,7 @@ fn waits(picking: Picking, places: &mut [u16], place: usize) -> Picking
 
 // A record goes, and with it what waits.
 fn goes(picking: Picking, places: &mut [u16], place: usize) -> Picking
-    requires { ⌜ Fits place picking × (place < 10000) × (length (now places) ≡ 10000) ⌝ }
+    requires { ⌜ ToNote place picking (now places) ⌝ }
     ensures { λ r. ⌜ Moves (recordGoes place) (now (places .entry)) picking (now (places .exit)) r ⌝ }
 {
     let next = picking.next;
@@ -94,10 +94,10 @@ fn passes(picking: Picking) -> Picking
 
 // One record further.
 fn step(picking: Picking, entity: u64, file: &[u8], place: usize, places: &mut [u16]) -> Picking
-    requires { ⌜ InFile (now file) place × Fits place picking × (length (now places) ≡ 10000) ⌝ }
+    requires { ⌜ ToStep (now file) place picking (now places) ⌝ }
     ensures { λ r. ⌜ Moves (notesWith entity (now (file .entry)) place) (now (places .entry)) picking (now (places .exit)) r ⌝ }
 {
-    let rec = state::record_at(file, place);
+    let rec = place::record_at(file, place);
     match kind::kind(rec) {
         Kind::BatchHeader => waits(picking, places, place),
         Kind::Individual => {
@@ -123,7 +123,7 @@ pub fn pick(entity: u64, file: &[u8], places: &mut [u16; Picked::MOST]) -> Picke
 {
     // as a slice, since its length is then known
     let held = &mut places[..];
-    let records = file.len() / State::RECORD;
+    let records = file.len() / Record::LENGTH;
     let mut picking = Picking {
         count: 0,
         next: 0,

@@ -1,25 +1,24 @@
 -- One record: what its characters and its type's place say of the whole.
-use Prim.Native.Nat.{ℕ, zero, suc, _*_, _<_}
-use mathlib.Core.Bool.{Bool, true, false}
+use Prim.Native.Nat.{ℕ, zero, suc, _*_}
+use mathlib.Core.Bool.{Bool, true}
 use mathlib.Core.List.{List, [], _∷_}
 use mathlib.Core.Path.{_≡_, _∙_}
 use lib.Dec.{T}
 use lib.ListN.{take, drop}
 use Rattle.paper.specs.declared.record.Before.{Before}
-use Rattle.paper.specs.declared.record.Before.the-variants.{Nothing, Between, Opened, Flagged, Inside, Ended}
 use Rattle.paper.specs.declared.record.Kind.{Kind}
-use Rattle.paper.specs.declared.record.Kind.the-variants.{FileHeader, BatchHeader, Individual, Additional, BatchControl, FileControl, Other}
 use Rattle.paper.specs.declared.rules.Rules.{Rules}
 use Rattle.paper.specs.Checks.{Check, fine, wrong, need, _also_}
 use Rattle.paper.specs.Fields.{every, good}
 use Rattle.paper.specs.Kinds.{kindOf, allowed}
 use Rattle.paper.specs.Reading.{judged}
 use Rattle.paper.proofs.Tests.{and-l, and-r, T-of, of-T}
-use Rattle.paper.proofs.Exactly.{wrong-not-fine}
 use Rattle.paper.proofs.Accepted.{Follows, follows, file-begins, batch-opens, file-ends, first-individual, its-additional, next-individual, batch-closes}
 use Rattle.state.specs.declared.State.{State}
-use Rattle.state.specs.States.{recordAt, meant, stops, afterRecord, stepped, Preceded}
-use Rattle.reading.specs.Taken.{taken}
+use Rattle.field.specs.Places.{recordAt}
+use Rattle.state.specs.declared.Step.{Step}
+use Rattle.state.specs.States.{meant, stops, afterRecord, stepped, Preceded, StandsAfter, Arrived, Ready, Steps}
+use Rattle.reading.specs.Taken.{taken, Comes}
 
 -- ---- characters
 
@@ -44,50 +43,32 @@ clean-record file place h =
 
 -- ---- order
 
--- kinds that stand in a batch, below its header
-abbrev pub inBatch : Kind → Bool
-inBatch FileHeader = false
-inBatch BatchHeader = false
-inBatch Individual = true
-inBatch Additional = true
-inBatch BatchControl = true
-inBatch FileControl = false
-inBatch Other = false
-
-header-stands : {b : Before} {k : Kind} (place : ℕ) (st : State) → T (inBatch k) → Follows b k → Preceded b place st → st .header < place
+-- what stands before a record, by its kind
+stands-before : {b : Before} {k : Kind} (place : ℕ) (st : State) → Follows b k → Preceded b place st → StandsAfter k place st
 unfolding Preceded
-header-stands place st h file-begins s = absurd h
-header-stands place st h batch-opens s = absurd h
-header-stands place st h file-ends s = absurd h
-header-stands place st h first-individual s = s
-header-stands place st h its-additional s = s .0
-header-stands place st h next-individual s = s
-header-stands place st h batch-closes s = s
-
--- an additional record stands after its individual one
-individual-stands : (b : Before) (place : ℕ) (st : State) → allowed b Additional ≡ fine → Preceded b place st → st .individual < place
-unfolding allowed Preceded
-individual-stands Nothing place st h s = absurd (wrong-not-fine h)
-individual-stands Between place st h s = absurd (wrong-not-fine h)
-individual-stands Opened place st h s = absurd (wrong-not-fine h)
-individual-stands Flagged place st h s = s .1
-individual-stands Inside place st h s = absurd (wrong-not-fine h)
-individual-stands Ended place st h s = absurd (wrong-not-fine h)
+stands-before place st file-begins s = tt
+stands-before place st batch-opens s = tt
+stands-before place st file-ends s = tt
+stands-before place st first-individual s = s
+stands-before place st its-additional s = s
+stands-before place st next-individual s = s
+stands-before place st batch-closes s = s
 
 -- what a record's step asks, by the kind that it turned out to be
-module _ (file : List ℕ) (place : ℕ) (st : State) {kind is : Kind} (told : kindOf (recordAt file place) ≡ kind) (may : allowed (st .before) kind ≡ fine)
-    (s : Preceded (st .before) place st) (e : kind ≡ is) where
-  pub of-kind : kindOf (recordAt file place) ≡ is
-  of-kind = told ∙ e
+pub ready : {file : List ℕ} {place : ℕ} {st : State} {kind is : Kind} → Arrived file place st → kindOf (recordAt file place) ≡ kind
+    → allowed (st .before) kind ≡ fine → kind ≡ is → Ready is file place st
+ready {place = place} {st = st} {is = is} a told may e = record {
+  short = a .short;
+  inside = a .inside;
+  told = told ∙ e;
+  room = a .room;
+  stands = stands-before place st (follows (st .before) is (rw e at may)) (a .preceded);
+}
 
-  may-be : allowed (st .before) is ≡ fine
-  may-be = rw e at may
-
-  pub header-before : T (inBatch is) → st .header < place
-  header-before h = header-stands place st h (follows (st .before) is may-be) s
-
-  pub individual-before : is ≡ Additional → st .individual < place
-  individual-before h = individual-stands (st .before) place st (rw h at may-be) s
+-- a step as the reading takes it
+pub comes : {kind : Kind} {rules : Rules} {file : List ℕ} {place : ℕ} {st : State} {r : Step}
+    → Steps kind rules file place st r → Comes (stepped rules file place st) file place r
+comes s = record { says = s .says; kept = s .kept }
 
 -- ---- the whole
 

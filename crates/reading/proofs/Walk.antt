@@ -18,7 +18,8 @@ use Rattle.paper.proofs.Tests.{T-of, within-range, and-l}
 use Rattle.paper.proofs.Places.{parts-from}
 use Rattle.paper.proofs.Lists.{length-parts}
 use Rattle.state.specs.declared.State.{State}
-use Rattle.state.specs.States.{recordAt, meant, goes, stops, afterRecord}
+use Rattle.field.specs.Places.{recordAt}
+use Rattle.state.specs.States.{meant, goes, stops, afterRecord}
 
 -- ---- outcomes
 

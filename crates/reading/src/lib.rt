@@ -1,26 +1,27 @@
 // The reading of a file: 201, then records in order. The first fault is the answer.
 ghost use mathlib.Core.Path.{_≡_};
 ghost use mathlib.Core.Bool.{true};
-ghost use Prim.Native.Nat.{_+_, _/_};
+ghost use Prim.Native.Nat.{_/_};
 ghost use lib.ListN.{length};
 ghost use Rattle.paper.specs.Checks.{fine};
 ghost use Rattle.paper.specs.Fields.{every, good};
 ghost use Rattle.paper.specs.Kinds.{kindOf, allowed};
 ghost use Rattle.paper.specs.Reading.{finish, lengthGood, reading};
-ghost use Rattle.state.specs.States.{recordAt, stepSays, stepped, InFile, RoomToCount, Preceded, Kept};
-ghost use Rattle.record.specs.Verdicts.{under};
+ghost use Rattle.field.specs.Places.{recordAt};
+ghost use Rattle.state.specs.States.{stepped, Arrived};
+ghost use Rattle.verdicts.specs.Verdicts.{under};
 ghost use Rattle.reading.specs.Said.{readingSays, Carries};
-ghost use Rattle.reading.specs.Taken.{taken};
+ghost use Rattle.reading.specs.Taken.{taken, Comes};
+use characters::number;
+use characters::text;
 use field::kind;
-use field::number;
-use field::text;
+use field::place;
+use field::place::Record;
 use paper::answer::Fault;
 use paper::record::Before;
 use paper::record::Kind;
 use paper::rules::Rules;
 use paper::rules::Terms;
-use record::order;
-use record::verdict::Verdict;
 use state::State;
 use state::Step;
 use state::additional;
@@ -29,6 +30,8 @@ use state::batch_header;
 use state::file_control;
 use state::file_header;
 use state::individual;
+use verdicts::order;
+use verdicts::verdict::Verdict;
 
 // Acceptance with the number of records, or a refusal with the place of the record it stands at.
 pub enum Reading {
@@ -38,16 +41,16 @@ pub enum Reading {
 
 impl Reading {
     // Bytes of a file, at least: a header and a control.
-    pub const SHORTEST: usize = 2 * State::RECORD;
+    pub const SHORTEST: usize = 2 * Record::LENGTH;
     // At most.
-    pub const LONGEST: usize = State::MOST * State::RECORD;
+    pub const LONGEST: usize = Record::MOST * Record::LENGTH;
 }
 
 fn length_good(n: usize) -> bool
     ensures { λ r. ⌜ r ≡ lengthGood n ⌝ }
 {
     number::within(Reading::SHORTEST as u64, Reading::LONGEST as u64, n as u64)
-        & (n % State::RECORD == 0)
+        & (n % Record::LENGTH == 0)
 }
 
 // Where the characters of the whole file are good, those of a record are.
@@ -70,11 +73,10 @@ fn fields(
     kind: Kind,
     state: State,
 ) -> Step
-    requires { ⌜ InFile (now file) place ⌝ }
+    requires { ⌜ Arrived (now file) place state ⌝ }
     requires { ⌜ kindOf (recordAt (now file) place) ≡ kind ⌝ }
     requires { ⌜ allowed (state .before) kind ≡ fine ⌝ }
-    requires { ⌜ RoomToCount place state × Preceded (state .before) place state ⌝ }
-    ensures { λ r. ⌜ (stepSays (now (file .entry)) (place + 1) r ≡ stepped (under terms (now (roster .entry))) (now (file .entry)) place state) × Kept (place + 1) r ⌝ }
+    ensures { λ r. ⌜ Comes (stepped (under terms (now (roster .entry))) (now (file .entry)) place state) (now (file .entry)) place r ⌝ }
 {
     match kind {
         Kind::FileHeader => file_header::step(terms, roster, file, place, state),
@@ -96,12 +98,11 @@ fn step(
     place: usize,
     state: State,
 ) -> Step
-    requires { ⌜ InFile (now file) place ⌝ }
+    requires { ⌜ Arrived (now file) place state ⌝ }
     requires { ⌜ (clean ≡ true → every good (now file) ≡ true) ⌝ }
-    requires { ⌜ RoomToCount place state × Preceded (state .before) place state ⌝ }
-    ensures { λ r. ⌜ (stepSays (now (file .entry)) (place + 1) r ≡ taken (under terms (now (roster .entry))) (now (file .entry)) place state) × Kept (place + 1) r ⌝ }
+    ensures { λ r. ⌜ Comes (taken (under terms (now (roster .entry))) (now (file .entry)) place state) (now (file .entry)) place r ⌝ }
 {
-    let rec = state::record_at(file, place);
+    let rec = place::record_at(file, place);
     let kind = kind::kind(rec);
     let before = state.before;
     let characters = characters(clean, rec);
@@ -130,7 +131,7 @@ pub fn read(terms: Terms, roster: &[bool; Rules::ROSTER], file: &[u8]) -> Readin
         return Reading::Refused(Fault::Length, 0);
     }
     let clean = text::all_good(file);
-    let records = file.len() / State::RECORD;
+    let records = file.len() / Record::LENGTH;
     let mut state = State::START;
     let mut place: usize = 0;
     while place < records {

@@ -5,15 +5,18 @@ use mathlib.Core.List.{List}
 use mathlib.Core.Path.{_≡_}
 use native.Mathlib.Omega.{arith}
 use Rattle.paper.specs.declared.record.Kind.{Kind}
+use Rattle.paper.specs.declared.answer.Fault.{Fault}
 use Rattle.paper.specs.declared.rules.Rules.{Rules}
+use Rattle.paper.specs.Answers.{numberOf}
 use Rattle.paper.specs.Checks.{fine, wrong}
-use Rattle.paper.specs.Kinds.{kindOf}
 use Rattle.paper.specs.Reading as paper
-use Rattle.paper.specs.Reading.{fields, next, beforeNext, lastIndividual, counted, flag}
+use Rattle.paper.specs.Reading.{fields, beforeNext, lastIndividual, counted, flag}
 use Rattle.state.specs.declared.State.{State}
-use Rattle.state.specs.States.{recordAt, meant, goes, stops, afterRecord, stepped, Preceded, RoomToCount}
-use Rattle.state.specs.Bounds.{Below}
-use Rattle.state.proofs.Bounds.{below-more}
+use Rattle.field.specs.Places.{recordAt}
+use Rattle.state.specs.declared.Step.the-variants.{Next, Stop}
+use Rattle.state.specs.States.{meant, stepSays, afterRecord, stepped, Preceded, RoomToCount, Kept, Held, Ready, Steps}
+use Rattle.controls.specs.Bounds.{Below}
+use Rattle.controls.proofs.Bounds.{below-more}
 
 -- the state after a record of a kind
 abbrev pub after : Kind → paper.State → List ℕ → paper.State
@@ -23,15 +26,19 @@ after kind s r = record {
   counts = counted kind (s .counts) r;
 }
 
-module _ (rules : Rules) (file : List ℕ) (place : ℕ) (st : State) (kind : Kind) (is : kindOf (recordAt file place) ≡ kind) where
-  pub goes-on : {s : paper.State} → fields kind rules (meant file place st) (recordAt file place) ≡ fine
-      → s ≡ after kind (meant file place st) (recordAt file place) → goes s ≡ stepped rules file place st
-  unfolding stepped afterRecord next
-  goes-on e h = rw (is, e, h)
+module _ {kind : Kind} (rules : Rules) {file : List ℕ} {place : ℕ} {st : State} (ready : Ready kind file place st) where
+  -- the record is without fault
+  pub goes-on : {next : State} → fields kind rules (meant file place st) (recordAt file place) ≡ fine
+      → meant file (place + 1) next ≡ after kind (meant file place st) (recordAt file place)
+      → Kept (place + 1) (Next next) → Held kind place st (Next next) → Steps kind rules file place st (Next next)
+  unfolding stepSays stepped afterRecord paper.next
+  goes-on e h kept held = record { says = rw (ready .told, e, h); kept = kept; held = held }
 
-  pub stops-at : {n : ℕ} → fields kind rules (meant file place st) (recordAt file place) ≡ wrong n → stops n ≡ stepped rules file place st
-  unfolding stepped afterRecord
-  stops-at e = rw (is, e)
+  -- its first fault is this
+  pub stops-at : {fault : Fault} → fields kind rules (meant file place st) (recordAt file place) ≡ wrong (numberOf fault)
+      → Steps kind rules file place st (Stop fault)
+  unfolding stepSays stepped afterRecord Kept Held
+  stops-at e = record { says = rw (ready .told, e); kept = tt; held = tt }
 
 -- after an individual record
 pub standing-flagged : (b : Bool) (place : ℕ) (st : State) → st .header < place → st .individual < place → Preceded (flag b) place st

@@ -2,7 +2,7 @@
 use Prim.Native.Nat.{ℕ, _*_, _^_, _+_, _≤_, _<_}
 use mathlib.Core.List.{List}
 use mathlib.Core.Path.{_≡_}
-use lib.ListN.{length, take, drop}
+use lib.ListN.{length}
 use Rattle.paper.specs.declared.record.Before.{Before}
 use Rattle.paper.specs.declared.record.Before.the-variants.{Nothing, Between, Opened, Flagged, Inside, Ended}
 use Rattle.paper.specs.declared.record.Kind.{Kind}
@@ -12,14 +12,11 @@ use Rattle.paper.specs.Answers.{numberOf}
 use Rattle.paper.specs.Checks.{Check, fine, wrong}
 use Rattle.paper.specs.Kinds.{kindOf}
 use Rattle.paper.specs.Reading as paper
+use Rattle.field.specs.Places.{recordAt}
+use Rattle.controls.specs.Bounds.{Below}
 use Rattle.state.specs.declared.State.{State}
 use Rattle.state.specs.declared.Step.{Step}
 use Rattle.state.specs.declared.Step.the-variants.{Next, Stop}
-use Rattle.state.specs.Bounds.{Below}
-
--- the record at a place of a file
-unfoldable pub recordAt : List ℕ → ℕ → List ℕ
-recordAt file place = take 94 (drop (place * 94) file)
 
 -- the paper's state: places stand for the records there
 unfoldable pub meant : List ℕ → ℕ → State → paper.State
@@ -70,9 +67,30 @@ unfoldable pub Kept : ℕ → Step → Type 0
 Kept place (Next st) = RoomToCount place st × Preceded (st .before) place st
 Kept place (Stop fault) = Unit {0}
 
--- a file that is not too long has a record at this place
-abbrev pub InFile : List ℕ → ℕ → Type 0
-InFile file place = (length file ≤ 940000) × (place * 94 + 94 ≤ length file)
+-- a record at this place can be read: what the records before it came to has room, and stands where it says
+pub record Arrived (file : List ℕ) (place : ℕ) (st : State) : Type 0 where
+  pub short : length file ≤ 940000
+  pub inside : place * 94 + 94 ≤ length file
+  pub room : RoomToCount place st
+  pub preceded : Preceded (st .before) place st
+
+-- a record in a batch stands after the batch's header, an additional one after its individual too
+abbrev pub StandsAfter : Kind → ℕ → State → Type 0
+StandsAfter FileHeader place st = Unit {0}
+StandsAfter BatchHeader place st = Unit {0}
+StandsAfter Individual place st = st .header < place
+StandsAfter Additional place st = (st .header < place) × (st .individual < place)
+StandsAfter BatchControl place st = st .header < place
+StandsAfter FileControl place st = Unit {0}
+StandsAfter Other place st = Unit {0}
+
+-- what a step asks for: a record of its kind at this place, room to count it, and what stands before it
+pub record Ready (kind : Kind) (file : List ℕ) (place : ℕ) (st : State) : Type 0 where
+  pub short : length file ≤ 940000
+  pub inside : place * 94 + 94 ≤ length file
+  pub told : kindOf (recordAt file place) ≡ kind
+  pub room : RoomToCount place st
+  pub stands : StandsAfter kind place st
 
 -- what the record at a place comes to, where its characters are good and its type may stand there
 unfoldable pub stepped : Rules → List ℕ → ℕ → State → AfterRecord
@@ -103,3 +121,9 @@ individualPlace Other place st = st .individual
 unfoldable pub Held : Kind → ℕ → State → Step → Type 0
 Held kind place st (Next after) = (after .header ≡ headerPlace kind place st) × (after .individual ≡ individualPlace kind place st)
 Held kind place st (Stop fault) = Unit {0}
+
+-- what a step answers: what it says, what it keeps for the next, and the places that it holds
+pub record Steps (kind : Kind) (rules : Rules) (file : List ℕ) (place : ℕ) (st : State) (r : Step) : Type 0 where
+  pub says : stepSays file (place + 1) r ≡ stepped rules file place st
+  pub kept : Kept (place + 1) r
+  pub held : Held kind place st r

@@ -1,21 +1,17 @@
 // 6, individual.
-ghost use mathlib.Core.Path.{_≡_};
-ghost use Prim.Native.Nat.{_<_, _+_};
 ghost use Rattle.paper.specs.declared.record.Kind.the-variants.{Individual};
-ghost use Rattle.paper.specs.Kinds.{kindOf};
-ghost use Rattle.record.specs.Verdicts.{under};
-ghost use Rattle.state.specs.States.{recordAt, stepSays, stepped, InFile, RoomToCount, Kept, Held};
+ghost use Rattle.verdicts.specs.Verdicts.{under};
+ghost use Rattle.state.specs.States.{Ready, Steps};
 use crate::State;
 use crate::Step;
 use crate::flag;
-use crate::record_at;
-use crate::tally;
-use entries::individual;
-use field::number;
-use field::text;
+use characters::number;
+use controls::tally;
+use field::individual;
+use field::place::record_at;
 use paper::rules::Rules;
 use paper::rules::Terms;
-use record::verdict::Verdict;
+use verdicts::verdict::Verdict;
 
 pub fn step(
     terms: Terms,
@@ -24,19 +20,17 @@ pub fn step(
     place: usize,
     state: State,
 ) -> Step
-    requires { ⌜ InFile (now file) place ⌝ }
-    requires { ⌜ kindOf (recordAt (now file) place) ≡ Individual ⌝ }
-    requires { ⌜ RoomToCount place state × (state .header < place) ⌝ }
-    ensures { λ r. ⌜ (stepSays (now (file .entry)) (place + 1) r ≡ stepped (under terms (now (roster .entry))) (now (file .entry)) place state) × Kept (place + 1) r × Held Individual place state r ⌝ }
+    requires { ⌜ Ready Individual (now file) place state ⌝ }
+    ensures { λ r. ⌜ Steps Individual (under terms (now (roster .entry))) (now (file .entry)) place state r ⌝ }
 {
     let rec = record_at(file, place);
     let header = record_at(file, state.header);
-    match individual::judge(terms, roster, header, state.counter, rec) {
+    match entries::individual::judge(terms, roster, header, state.counter, rec) {
         Verdict::Right => {
             let batch = state.batch;
             let closed = state.closed;
             Step::Next(State {
-                before: flag(text::reads(rec, 79, 79, b"1")),
+                before: flag(individual::flagged(rec)),
                 header: state.header,
                 individual: place,
                 counter: number::number(rec, 88, 94),

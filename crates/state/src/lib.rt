@@ -1,9 +1,8 @@
 // What the next record finds before it, and the state after a record of each kind.
 ghost use mathlib.Core.Path.{_≡_};
-ghost use Prim.Native.Nat.{_+_, _*_, _≤_};
-ghost use lib.ListN.{length};
 ghost use Rattle.paper.specs.Reading.{flag};
-ghost use Rattle.state.specs.States.{recordAt};
+use controls::tally;
+use field::place::Record;
 use paper::answer::Fault;
 use paper::record::Before;
 use paper::record::Tally;
@@ -14,7 +13,6 @@ pub mod batch_header;
 pub mod file_control;
 pub mod file_header;
 pub mod individual;
-pub mod tally;
 
 // Records are held by their places in the file.
 pub struct State {
@@ -39,12 +37,8 @@ pub enum Step {
 }
 
 impl State {
-    // Bytes of a record.
-    pub const RECORD: usize = 94;
-    // Records of a file, at most.
-    pub const MOST: usize = 10000;
     // A place that no file has.
-    const NOWHERE: usize = State::MOST;
+    const NOWHERE: usize = Record::MOST;
     // Before the first record.
     pub const START: State = State {
         before: Before::Nothing,
@@ -65,13 +59,4 @@ pub fn flag(flagged: bool) -> Before
         return Before::Flagged;
     }
     Before::Inside
-}
-
-pub fn record_at(file: &[u8], place: usize) -> &[u8]
-    requires { ⌜ length (now file) ≤ 940000 ⌝ }
-    requires { ⌜ place * 94 + 94 ≤ length (now file) ⌝ }
-    ensures { λ r. ⌜ (now r ≡ recordAt (now (file .entry)) place) × (length (now r) ≡ 94) ⌝ }
-{
-    let at = place * State::RECORD;
-    &file[at..at + State::RECORD]
 }

@@ -15,7 +15,7 @@ use Rattle.paper.specs.Buffers.{over}
 use Rattle.paper.proofs.Lists.{joined-append, length-parts}
 use Rattle.paper.proofs.Places.{parts-from}
 use Rattle.paper.proofs.Round.{stripped-append}
-use Rattle.state.specs.States.{recordAt}
+use Rattle.field.specs.Places.{recordAt}
 use Rattle.writing.proofs.Laying.{Wrote, on, again, whole, kept, rest-laid}
 use Rattle.strip.specs.Tray.{onTray}
 

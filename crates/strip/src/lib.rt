@@ -4,9 +4,10 @@ ghost use Prim.Native.Nat.{_≤_};
 ghost use lib.ListN.{length};
 ghost use Rattle.paper.specs.Buffers.{told, over, written, roomFor};
 ghost use Rattle.paper.specs.Trays.{strip};
+use field::place;
+use field::place::Record;
 use paper::answer::Fault;
 use paper::answer::Output;
-use state::State;
 
 mod marks;
 
@@ -15,11 +16,11 @@ fn size(file: &[u8]) -> usize
     requires { ⌜ length (now file) ≤ 940000 ⌝ }
     ensures { λ r. ⌜ r ≡ length (strip (now (file .entry))) ⌝ }
 {
-    let records = file.len() / State::RECORD;
+    let records = file.len() / Record::LENGTH;
     let mut size: usize = 0;
     let mut place: usize = 0;
     while place < records {
-        size += marks::bytes(state::record_at(file, place));
+        size += marks::bytes(place::record_at(file, place));
         place += 1;
     }
     size
@@ -30,11 +31,11 @@ fn write(out: &mut [u8], file: &[u8])
     requires { ⌜ (length (now file) ≤ 940000) × (length (strip (now file)) ≤ length (now out)) ⌝ }
     ensures { λ _. ⌜ now (out .exit) ≡ over (strip (now (file .entry))) (now (out .entry)) ⌝ }
 {
-    let records = file.len() / State::RECORD;
+    let records = file.len() / Record::LENGTH;
     let mut at: usize = 0;
     let mut place: usize = 0;
     while place < records {
-        at += marks::marked(&mut out[at..], state::record_at(file, place));
+        at += marks::marked(&mut out[at..], place::record_at(file, place));
         place += 1;
     }
 }

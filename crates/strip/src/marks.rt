@@ -5,9 +5,9 @@ ghost use Prim.Native.Nat.{_≤_};
 ghost use lib.ListN.{length};
 ghost use Rattle.paper.specs.Buffers.{over};
 ghost use Rattle.paper.specs.Trays.{zeroed};
-ghost use Rattle.strip.specs.Tray.{onTray};
+ghost use Rattle.strip.specs.Tray.{onTray, ToMark};
+use characters::text::part;
 use field::kind;
-use field::text::part;
 use paper::record::Kind;
 use tray::Tray;
 use writing::text;
@@ -25,7 +25,7 @@ pub fn bytes(rec: &[u8]) -> usize
 
 // A tray record at the front of the buffer, with zeros in its body's 88-94.
 fn put(dst: &mut [u8], mark: &[u8], rec: &[u8]) -> usize
-    requires { ⌜ (length (now mark) ≡ 2) × (length (now rec) ≡ 94) × (96 ≤ length (now dst)) ⌝ }
+    requires { ⌜ ToMark (now mark) (now rec) (now dst) ⌝ }
     ensures { λ r. ⌜ (r ≡ 96) × (now (dst .exit) ≡ over (now (mark .entry) ++ zeroed (now (rec .entry))) (now (dst .entry))) ⌝ }
 {
     let body = text(dst, 0, mark);

@@ -115,11 +115,11 @@ sound-of header tray h =
       },
     )
 
--- a mark stands before a 5, a 6 or a 7 only
 -- the types that stand in a tray
 abbrev pub OnTray : Kind → Type 0
 OnTray k = (k ≡ BatchHeader) ⊎ (k ≡ Individual) ⊎ (k ≡ Additional)
 
+-- a mark stands before a 5, a 6 or a 7 only
 marked-kinds : (k : Kind) (mark : List ℕ) → T (markGood k mark) → OnTray k
 unfolding markGood
 marked-kinds FileHeader mark t = absurd t

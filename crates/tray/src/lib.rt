@@ -7,12 +7,12 @@ ghost use Rattle.paper.specs.Kinds.{kindOf};
 ghost use Rattle.paper.specs.Trays.{markGood, trayRecordGood, trayRecords, trayFault};
 ghost use Rattle.paper.specs.Buffers.{trayAnswer};
 ghost use Rattle.tray.specs.Trays.{trayRecordAt, bodyAt, bodies, batchesIn};
+use characters::text;
 use field::kind;
-use field::text;
+use field::place::Record;
 use paper::answer::Answer;
 use paper::answer::Fault;
 use paper::record::Kind;
-use state::State;
 
 pub mod pieces;
 
@@ -22,7 +22,7 @@ impl Tray {
     // Bytes of a mark.
     pub const MARK: usize = 2;
     // Bytes of a record, its mark before its body.
-    pub const RECORD: usize = Tray::MARK + State::RECORD;
+    pub const RECORD: usize = Tray::MARK + Record::LENGTH;
 }
 
 fn record_at(tray: &[u8], place: usize) -> &[u8]
@@ -81,7 +81,7 @@ fn fault(tray: &[u8]) -> Answer
 pub fn answer(header: &[u8], tray: &[u8]) -> Answer
     ensures { λ r. ⌜ said r ≡ trayAnswer (now (header .entry)) (now (tray .entry)) ⌝ }
 {
-    if header.len() != State::RECORD {
+    if header.len() != Record::LENGTH {
         return Answer::Refused(Fault::Tray, 0);
     }
     if tray.len() % Tray::RECORD != 0 {

@@ -8,9 +8,9 @@ ghost use Rattle.tray.specs.Seen.{mostSeen, Seen, ReadOn, Tells};
 ghost use Rattle.tray.specs.Looks.{piecesIn, LookBegun, LookOn};
 use crate::Tray;
 use crate::fault;
+use field::place::Record;
 use paper::answer::Answer;
 use paper::answer::Fault;
-use state::State;
 use watch::Watch;
 
 // What is known after some pieces.
@@ -78,7 +78,7 @@ impl Pieces {
         if self.records > Pieces::MOST {
             return Known::Endless;
         }
-        if header.len() != State::RECORD {
+        if header.len() != Record::LENGTH {
             return Known::Finite(Answer::Refused(Fault::Tray, 0));
         }
         if self.left != 0 {

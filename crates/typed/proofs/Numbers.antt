@@ -14,7 +14,7 @@ use Rattle.paper.specs.Dates.{isDate}
 use Rattle.paper.specs.Buffers.{written, entityGiven, extracting}
 use Rattle.paper.proofs.Tests.{T-of}
 use Rattle.paper.proofs.Digits.{digit-range, number-bound, ten-pos}
-use Rattle.field.proofs.Ranges.{over}
+use Rattle.characters.proofs.Ranges.{over}
 use Rattle.desk.proofs.Rosters.{below-500}
 use Rattle.typed.specs.Words.{dateTyped, grown, grownBy, entityTyped}
 

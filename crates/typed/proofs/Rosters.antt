@@ -14,7 +14,7 @@ use Rattle.paper.specs.Dates.{isDate}
 use Rattle.paper.specs.Sessions.{Reply, listed, newSession, openingAnswer, openedWith, opening}
 use Rattle.paper.proofs.Tests.{and-l, and-r, T-of, of-T}
 use Rattle.paper.proofs.Rosters.{listed-set, listed-none}
-use Rattle.field.proofs.Ranges.{inside}
+use Rattle.characters.proofs.Ranges.{inside}
 use Rattle.typed.specs.declared.roster.Roster.{Roster}
 use Rattle.typed.specs.Words.{grown, grownBy, entityTyped}
 use Rattle.typed.specs.Rosters.{separator, ended, wordsFrom, rosterTyped, begun, noted, closedIf, closed, withIf, readOn, numbersMarked, entitiesIn}

@@ -14,12 +14,17 @@ use Rattle.typed.specs.declared.call.Asked.the-variants.{To, Nothing}
 unfoldable pub askedIn : List ℕ → Job → Bool → Asked
 askedIn currency job fits = cond fits (cond (is currency "pesos") (To job Pesos) (cond (is currency "dollars") (To job Dollars) Nothing)) Nothing
 
--- the job's name, and how many words its call has, the program's own name among them; those of `present` are six or more
+-- the job's name, and how many words its call has, the program's own name among them: first the jobs that write a file
+unfoldable pub askedToWrite : List ℕ → List ℕ → ℕ → Asked
+askedToWrite job currency count =
+    cond (is job "extract") (askedIn currency Extract (eqb count 8))
+    (cond (is job "build") (askedIn currency Build (eqb count 8))
+    (cond (is job "strip") (askedIn currency Strip (eqb count 7))
+    Nothing))
+
+-- all of them; the words of `present` are six or more
 unfoldable pub askedFor : List ℕ → List ℕ → ℕ → Asked
 askedFor job currency count =
     cond (is job "read") (askedIn currency Read (eqb count 6))
     (cond (is job "present") (askedIn currency Present (leb 6 count))
-    (cond (is job "extract") (askedIn currency Extract (eqb count 8))
-    (cond (is job "build") (askedIn currency Build (eqb count 8))
-    (cond (is job "strip") (askedIn currency Strip (eqb count 7))
-    Nothing))))
+    (askedToWrite job currency count))

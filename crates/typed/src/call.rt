@@ -1,6 +1,6 @@
 // What the words of a call ask for.
 ghost use mathlib.Core.Path.{_≡_};
-ghost use Rattle.typed.specs.Asking.{askedIn, askedFor};
+ghost use Rattle.typed.specs.Asking.{askedIn, askedToWrite, askedFor};
 use crate::words;
 use paper::rules::Currency;
 
@@ -53,16 +53,10 @@ fn asked_in(currency: &[u8], job: Job, fits: bool) -> Asked
     Asked::Nothing
 }
 
-// What the words for the job and the currency ask for, in a call of so many words.
-pub fn asked_for(job: &[u8], currency: &[u8], count: usize) -> Asked
-    ensures { λ r. ⌜ r ≡ askedFor (now (job .entry)) (now (currency .entry)) count ⌝ }
+// The jobs that write a file.
+fn asked_to_write(job: &[u8], currency: &[u8], count: usize) -> Asked
+    ensures { λ r. ⌜ r ≡ askedToWrite (now (job .entry)) (now (currency .entry)) count ⌝ }
 {
-    if words::is(job, b"read") {
-        return asked_in(currency, Job::Read, count == Word::FIRST + 1);
-    }
-    if words::is(job, b"present") {
-        return asked_in(currency, Job::Present, count > Word::FIRST);
-    }
     if words::is(job, b"extract") {
         return asked_in(currency, Job::Extract, count == Word::THIRD + 1);
     }
@@ -73,4 +67,17 @@ pub fn asked_for(job: &[u8], currency: &[u8], count: usize) -> Asked
         return asked_in(currency, Job::Strip, count == Word::SECOND + 1);
     }
     Asked::Nothing
+}
+
+// What the words for the job and the currency ask for, in a call of so many words.
+pub fn asked_for(job: &[u8], currency: &[u8], count: usize) -> Asked
+    ensures { λ r. ⌜ r ≡ askedFor (now (job .entry)) (now (currency .entry)) count ⌝ }
+{
+    if words::is(job, b"read") {
+        return asked_in(currency, Job::Read, count == Word::FIRST + 1);
+    }
+    if words::is(job, b"present") {
+        return asked_in(currency, Job::Present, count > Word::FIRST);
+    }
+    asked_to_write(job, currency, count)
 }

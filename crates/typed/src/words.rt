@@ -3,10 +3,10 @@ ghost use mathlib.Core.Path.{_≡_};
 ghost use Prim.Native.Nat.{_<_};
 ghost use Rattle.paper.specs.Fields.{same};
 ghost use Rattle.typed.specs.Words.{dateTyped, grown, entityTyped};
+use characters::byte;
+use characters::number;
+use characters::text;
 use desk::Session;
-use field::byte;
-use field::number;
-use field::text;
 
 // AAMMDD
 const DATE: usize = 6;

@@ -1,8 +1,8 @@
 //! Good files of which one entity gets every batch, some, one or none, or a share of the records.
 
-use super::day::relation;
 use super::draft::{put_number, Draft};
-use super::good::{any_date, entity_field, roster_with, Amounts, Maker, MODEST};
+use super::entities::{any_currency, entity_field, relation, roster_with};
+use super::good::{any_date, Amounts, Maker, MODEST};
 use super::random::Random;
 use crate::{Currency, Rules};
 
@@ -57,7 +57,7 @@ impl Members {
     fn rules(&self, random: &mut Random) -> Rules {
         Rules {
             date: any_date(random),
-            currency: *random.pick(&[Currency::Pesos, Currency::Dollars]),
+            currency: any_currency(random),
             roster: roster_with(random, &self.all()),
         }
     }
@@ -165,23 +165,13 @@ pub fn empty_file(random: &mut Random) -> Addressed {
     Sender::new(random, &members).finish()
 }
 
-/// Exactly so many records, in batches of some twenty.
-pub fn shared_file(random: &mut Random, records: usize, share: Share) -> Addressed {
-    in_batches(random, records, 12, share)
-}
-
-/// Exactly so many records, in as many batches as these allow.
-pub fn smallest_batches(random: &mut Random, records: usize, share: Share) -> Addressed {
-    in_batches(random, records, 1, share)
-}
-
-/// Exactly so many records, in one batch.
-pub fn one_batch(random: &mut Random, records: usize, share: Share) -> Addressed {
-    in_batches(random, records, usize::MAX, share)
-}
+/// Individual records of a batch: one, several, or all that the file holds.
+pub const ONE: usize = 1;
+pub const SEVERAL: usize = 12;
+pub const ALL: usize = usize::MAX;
 
 /// Exactly so many records, in batches of so many individual ones.
-fn in_batches(random: &mut Random, records: usize, each: usize, share: Share) -> Addressed {
+pub fn shared_file(random: &mut Random, records: usize, each: usize, share: Share) -> Addressed {
     let members = Members::any(random);
     let mut sender = Sender::new(random, &members);
     sender.maker.amounts = MODEST;
@@ -255,7 +245,7 @@ pub fn largest_totals(random: &mut Random) -> Addressed {
             sender.send(false);
         }
         sender.maker.destination = Some(*b"09999999");
-        (0..individuals).for_each(|_| sender.maker.individual_of(b"37", b"00", false));
+        (0..individuals).for_each(|_| sender.maker.order());
         sender.maker.batch_control();
     }
     sender.finish()
@@ -285,12 +275,8 @@ pub fn renumber_batches(random: &mut Random, draft: &mut Draft) {
     let step = *random.pick(&[0, 1, 2]);
     let headers = draft.places(|record| record[0] == b'5');
     for (index, place) in headers.into_iter().enumerate() {
-        put_number(
-            &mut draft.records[place],
-            88,
-            94,
-            first + step * index as u64,
-        );
+        let number = first + step * index as u64;
+        put_number(&mut draft.records[place], 88, 94, number);
     }
     draft.settle();
 }

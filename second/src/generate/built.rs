@@ -1,12 +1,13 @@
 //! What building and stripping should give, made from drafts whose controls are computed anew.
 
-use super::draft::{get_number, put, put_number, Draft};
+use super::draft::{get_number, put, put_number, Draft, Record};
 use super::meant::{blank, records_of};
 use crate::reading::RECORD;
 use crate::tray::TRAY_RECORD;
 use crate::{read, Refusal, Rules};
 
-const LONGEST: usize = 940_000;
+/// Bytes of the longest file.
+pub const LONGEST: usize = 940_000;
 
 /// The place of the first tray record without its form.
 pub fn malformed(tray: &[u8]) -> Option<usize> {
@@ -47,21 +48,25 @@ pub fn built_of(rules: &Rules, header: &[u8], tray: &[u8]) -> Vec<u8> {
 
 /// Batches 1, 2, .. and individual records 1, 2, .. through the file; the controls are not settled.
 pub fn number_as_built(draft: &mut Draft) {
-    let (mut batches, mut individuals) = (0, 0);
     // The header body may begin with anything.
-    for record in draft.records.iter_mut().skip(1) {
+    let records = &mut draft.records[1..];
+    let headers = records.iter_mut().filter(|record| record[0] == b'5');
+    for (header, number) in headers.zip(1..) {
+        put_number(header, 88, 94, number);
+    }
+    number_individuals(records, 0);
+}
+
+/// Individual records one higher each, and additionals like theirs.
+pub fn number_individuals(records: &mut [Record], before: u64) {
+    let mut counter = before;
+    for record in records {
         match record[0] {
-            b'5' => {
-                batches += 1;
-                put_number(record, 88, 94, batches);
-            }
-            b'6' => {
-                individuals += 1;
-                put_number(record, 88, 94, individuals);
-            }
-            b'7' => put_number(record, 88, 94, individuals),
-            _ => {}
+            b'6' => counter += 1,
+            b'7' => {}
+            _ => continue,
         }
+        put_number(record, 88, 94, counter);
     }
 }
 
@@ -84,22 +89,6 @@ pub fn build_meant(
         length if length > room => refused(206, 0),
         length => read(rules, &built_of(rules, header, tray)).map(|_| length),
     }
-}
-
-/// What building leaves of the buffer after this answer.
-pub fn built_buffer(
-    rules: &Rules,
-    header: &[u8],
-    tray: &[u8],
-    before: &[u8],
-    answer: Result<usize, Refusal>,
-) -> Vec<u8> {
-    let written = match answer.map_err(|refusal| refusal.number) {
-        Ok(_) => built_of(rules, header, tray),
-        Err(201 | 206 | 207) => Vec::new(),
-        Err(_) => vec![b' '; built_length(tray)],
-    };
-    [&written, &before[written.len()..]].concat()
 }
 
 /// The length of the tray that stripping would write.

@@ -1,11 +1,11 @@
 //! Faults of the table, applied to a draft: one, or two for the order of checks.
 
+use super::case::{refused, Answer, Case};
 use super::draft::{get_number, put, put_number, Draft};
+use super::entities::{field_number, named_in};
 use super::faults::{Check, Kind, Way, NO_DATES};
-use super::good::{any_date, file_with_batches};
+use super::good::{any_date, file_with_batches, CODES};
 use super::random::{Random, CHARACTERS};
-use super::{refused, Answer, Case};
-use crate::Currency;
 
 /// A fault chosen from the table for one record of a draft.
 #[derive(Clone, Copy)]
@@ -18,6 +18,16 @@ struct Fault {
 }
 
 impl Fault {
+    /// In any way and in any record of this kind, of which the draft must have one.
+    fn somewhere(random: &mut Random, draft: &Draft, kind: Kind, rank: usize) -> Fault {
+        Fault {
+            kind,
+            rank,
+            way: *random.pick(kind.checks()[rank].ways),
+            place: *random.pick(&draft.places(|record| kind.is(record))),
+        }
+    }
+
     fn check(&self) -> &'static Check {
         &self.kind.checks()[self.rank]
     }
@@ -76,12 +86,7 @@ fn any_body_fault(random: &mut Random, draft: &Draft, kinds: &[Kind]) -> Fault {
         rows.retain(|row| number(row) == wanted);
     }
     let (kind, rank) = *random.pick(&rows);
-    Fault {
-        kind,
-        rank,
-        way: *random.pick(kind.checks()[rank].ways),
-        place: *random.pick(&draft.places(|record| kind.is(record))),
-    }
+    Fault::somewhere(random, draft, kind, rank)
 }
 
 pub fn two_faults_in_one_record(random: &mut Random) -> Case {
@@ -128,19 +133,11 @@ fn any_fault(random: &mut Random, draft: &Draft) -> Fault {
     loop {
         let kind = *random.pick(&Kind::ALL);
         let rank = random.below(kind.checks().len());
-        let check = &kind.checks()[rank];
-        let places = draft.places(|record| kind.is(record));
-        if places.is_empty() || number.is_some_and(|number| number != check.number) {
-            // A file without additionals cannot have all faults: draw again.
-            continue;
+        let wanted = number.is_none_or(|number| number == kind.checks()[rank].number);
+        // A file without additionals cannot have all faults: then another is drawn.
+        if wanted && draft.records.iter().any(|record| kind.is(record)) {
+            return Fault::somewhere(random, draft, kind, rank);
         }
-        let (way, place) = (*random.pick(check.ways), *random.pick(&places));
-        return Fault {
-            kind,
-            rank,
-            way,
-            place,
-        };
     }
 }
 
@@ -249,31 +246,15 @@ fn name_absent(random: &mut Random, draft: &mut Draft, place: usize, from: usize
         }
     };
     draft.rules.roster[absent] = false;
-    let added = if draft.rules.currency == Currency::Dollars {
-        500
-    } else {
-        0
-    };
-    put_number(
-        &mut draft.records[place],
-        from,
-        from + 3,
-        (absent + added) as u64,
-    );
+    let number = field_number(draft.rules.currency, absent as u64);
+    put_number(&mut draft.records[place], from, from + 3, number);
 }
 
 /// The first place of a record that names the entity, in whichever currency.
 pub fn first_use(draft: &Draft, entity: usize) -> Option<usize> {
-    draft.records.iter().position(|record| {
-        let from = match record[0] {
-            b'1' => 15,
-            b'5' => 80,
-            b'6' => 4,
-            _ => return false,
-        };
-        let named = get_number(record, from, from + 3) as usize;
-        named == entity || named == entity + 500
-    })
+    let names_it = |named: usize| named == entity || named == entity + 500;
+    let mut records = draft.records.iter();
+    records.position(|record| named_in(record).is_some_and(names_it))
 }
 
 fn change_date(random: &mut Random, draft: &mut Draft, fault: &Fault) {
@@ -302,13 +283,7 @@ fn entangle(random: &mut Random, draft: &mut Draft, fault: &Fault) {
         return;
     }
     if record[78] == b'0' {
-        let (code, information) = *random.pick(&[
-            (b"37", b"01"),
-            (b"36", b"00"),
-            (b"36", b"01"),
-            (b"32", b"00"),
-            (b"31", b"00"),
-        ]);
+        let (code, information) = *random.pick(&CODES[1..]);
         put(record, 2, code);
         put(record, 77, information);
     } else if &record[1..3] == b"37" && &record[76..78] == b"00" {

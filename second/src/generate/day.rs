@@ -1,25 +1,12 @@
 //! Days: an opening, and the files that are presented after it.
 
-use super::desk::{put_origin, Desk, IDENTIFIERS};
+pub use super::desk::{DayCase, Presented};
+use super::desk::{Desk, IDENTIFIERS};
+use super::entities::{any_currency, put_origin, relation};
 use super::good::{any_date, long_file};
 use super::opening::{accepted, any_opening, everybody, shuffle};
-use super::random::Random;
-use super::DAYS;
+use super::random::{Random, DAYS};
 use crate::day::{Day, Opening};
-use crate::{Currency, Refusal};
-
-/// One day, with the answers that were meant where they are known.
-pub struct DayCase {
-    pub family: &'static str,
-    pub day: Day,
-    pub opening: Result<(), Refusal>,
-    pub presented: Vec<Presented>,
-}
-
-pub struct Presented {
-    pub kind: &'static str,
-    pub meant: Option<Result<(), Refusal>>,
-}
 
 pub fn generate_day(seed: u64, number: u64) -> DayCase {
     let mut random = Random::new(seed, DAYS + number);
@@ -38,7 +25,7 @@ pub fn generate_day(seed: u64, number: u64) -> DayCase {
 fn open_to_everybody(random: &mut Random) -> Opening {
     Opening {
         date: any_date(random),
-        currency: *random.pick(&[Currency::Pesos, Currency::Dollars]),
+        currency: any_currency(random),
         entities: everybody(),
     }
 }
@@ -67,25 +54,6 @@ fn all_identifiers(random: &mut Random) -> DayCase {
         desk.next_file();
     }
     desk.close()
-}
-
-/// Another origin, whose keys would be the first to meet those of this one.
-pub fn relation(random: &mut Random, origin: usize) -> usize {
-    loop {
-        let any = random.between(1, 499);
-        let near = [
-            origin + 1,
-            origin - 1,
-            origin + 10,
-            origin + 100,
-            origin ^ 256,
-            any,
-        ];
-        let other = *random.pick(&near);
-        if other != origin && (1..500).contains(&other) {
-            return other;
-        }
-    }
 }
 
 /// The most that one origin can present: 36 good files of 10,000 records, naming everybody.

@@ -1,16 +1,28 @@
 //! Files that agree, collide, are refused and come back repaired, as one day presents them.
 
-use super::damage::put_fault;
-use super::day::{relation, DayCase, Presented};
+use super::case::{accepted, refused, Answer};
+use super::copies::damaged_copy;
 use super::draft::{get_number, Draft};
-use super::good::{any_date, entity_field, long_file, small_file, some_entities};
+use super::entities::{named_in, other_currency, put_origin, relation, some_entities};
+use super::good::{any_date, long_file, small_file};
 use super::opening::Opened;
-use super::random::{Random, CHARACTERS};
-use super::structure::disorder;
-use super::{refused, Answer};
+use super::random::Random;
 use crate::day::Day;
-use crate::{Currency, Refusal, Rules};
+use crate::{Refusal, Rules};
 use std::collections::BTreeSet;
+
+/// One day, with the answers that were meant where they are known.
+pub struct DayCase {
+    pub family: &'static str,
+    pub day: Day,
+    pub opening: Result<(), Refusal>,
+    pub presented: Vec<Presented>,
+}
+
+pub struct Presented {
+    pub kind: &'static str,
+    pub meant: Option<Result<(), Refusal>>,
+}
 
 pub const IDENTIFIERS: &[u8; 36] = b"0123456789ABCDEFGHIJKLMNOPQRSTUVWXYZ";
 
@@ -71,12 +83,15 @@ impl<'r> Desk<'r> {
         match self.random.below(20) {
             0..=4 => self.fresh(),
             5 => self.any_identifier(),
+            6..=10 if self.earlier.is_empty() => self.fresh(),
             6 => self.same_file_again(),
             7 => self.same_identifier(),
             8 => self.other_branch(),
             9 | 10 => self.other_origin(),
             11..=13 => self.damaged(),
+            14..=16 if self.unrepaired.is_empty() => self.fresh(),
             14..=16 => self.repaired(),
+            17 if self.earlier.is_empty() => self.damaged(),
             17 => self.damaged_repeat(),
             18 => self.unsuited(),
             _ => self.no_file(),
@@ -95,17 +110,13 @@ impl<'r> Desk<'r> {
     }
 
     fn same_file_again(&mut self) {
-        let Some(draft) = self.earlier_draft() else {
-            return self.fresh();
-        };
+        let draft = self.earlier_draft();
         self.present_good("same file again", draft);
     }
 
     /// Another file of the same origin and branch.
     fn same_identifier(&mut self) {
-        let Some(earlier) = self.earlier_draft() else {
-            return self.fresh();
-        };
+        let earlier = self.earlier_draft();
         let mut draft = self.draft();
         draft.records[0][14..22].copy_from_slice(&earlier.records[0][14..22]);
         draft.records[0][33] = earlier.records[0][33];
@@ -114,9 +125,7 @@ impl<'r> Desk<'r> {
 
     /// The branch is no part of the key, so this is used up as well.
     fn other_branch(&mut self) {
-        let Some(earlier) = self.earlier_draft() else {
-            return self.fresh();
-        };
+        let earlier = self.earlier_draft();
         let mut draft = match self.random.below(2) {
             0 => earlier.clone(),
             _ => self.draft(),
@@ -131,9 +140,7 @@ impl<'r> Desk<'r> {
 
     /// The same identifier, often the same file, from somebody else.
     fn other_origin(&mut self) {
-        let Some(mut draft) = self.earlier_draft() else {
-            return self.fresh();
-        };
+        let mut draft = self.earlier_draft();
         let origin = get_number(&draft.records[0], 15, 18) as usize % 500;
         let related = relation(self.random, origin);
         let member = *self.random.pick(&self.members);
@@ -164,9 +171,6 @@ impl<'r> Desk<'r> {
 
     /// A refused file has used up no identifier.
     fn repaired(&mut self) {
-        if self.unrepaired.is_empty() {
-            return self.fresh();
-        }
         let index = self.random.below(self.unrepaired.len());
         let draft = self.unrepaired.swap_remove(index);
         self.present_good("repaired", draft);
@@ -174,10 +178,8 @@ impl<'r> Desk<'r> {
 
     /// The reading's refusal comes before that of a used identifier.
     fn damaged_repeat(&mut self) {
-        match self.earlier_draft() {
-            Some(draft) => self.present_damaged(&draft),
-            None => self.damaged(),
-        }
+        let draft = self.earlier_draft();
+        self.present_damaged(&draft);
     }
 
     /// A good file for a session of another date, currency or roster.
@@ -189,10 +191,7 @@ impl<'r> Desk<'r> {
             rules.date = any_date(self.random);
         }
         if kinds & 2 != 0 {
-            rules.currency = match rules.currency {
-                Currency::Pesos => Currency::Dollars,
-                Currency::Dollars => Currency::Pesos,
-            };
+            rules.currency = other_currency(rules.currency);
         }
         if kinds & 4 != 0 {
             members.push(self.random.between(1, 499));
@@ -240,8 +239,8 @@ impl<'r> Desk<'r> {
         draft
     }
 
-    fn earlier_draft(&mut self) -> Option<Draft> {
-        (!self.earlier.is_empty()).then(|| self.random.pick(&self.earlier).clone())
+    fn earlier_draft(&mut self) -> Draft {
+        self.random.pick(&self.earlier).clone()
     }
 
     pub fn present_good(&mut self, kind: &'static str, draft: Draft) {
@@ -305,11 +304,6 @@ fn members(random: &mut Random, asked_for: &[u64]) -> Vec<usize> {
         .collect()
 }
 
-pub fn put_origin(random: &mut Random, draft: &mut Draft, origin: usize) {
-    let field = entity_field(random, draft.rules.currency, origin);
-    draft.records[0][14..22].copy_from_slice(&field);
-}
-
 /// The answer to a good file from a session with other rules than those it was made for.
 fn reading_of(draft: &Draft, rules: &Rules) -> Answer {
     if get_number(&draft.records[0], 24, 29) != rules.date {
@@ -318,51 +312,11 @@ fn reading_of(draft: &Draft, rules: &Rules) -> Answer {
     if draft.rules.currency != rules.currency {
         return refused(203, 0);
     }
-    let stranger = draft.records.iter().position(|record| {
-        let from = match record[0] {
-            b'1' => 15,
-            b'5' => 80,
-            b'6' => 4,
-            _ => return false,
-        };
-        // 500 more in dollars; no entity has the number 500.
-        !rules.roster[get_number(record, from, from + 3) as usize % 500]
-    });
-    match stranger {
+    // 500 more in dollars; no entity has the number 500.
+    let is_stranger = |named: usize| !rules.roster[named % 500];
+    let mut records = draft.records.iter();
+    match records.position(|record| named_in(record).is_some_and(is_stranger)) {
         Some(place) => refused(204, place),
-        None => Some(Ok(draft.records.len())),
+        None => accepted(draft),
     }
-}
-
-/// A copy with some fault that leaves the session as it is.
-pub fn damaged_copy(random: &mut Random, good: &Draft) -> (&'static str, Vec<u8>, Answer) {
-    loop {
-        let mut draft = good.clone();
-        let mut kind = "fault";
-        let with_batches = draft.records.len() > 2;
-        let answer = match random.below(8) {
-            0..=3 if with_batches => put_fault(random, &mut draft),
-            0..=5 => {
-                let answer;
-                (kind, answer) = disorder(random, &mut draft);
-                answer
-            }
-            6 => return flipped_copy(random, good),
-            _ => {
-                let file = good.bytes();
-                return ("cut", file[..file.len() - 1].to_vec(), refused(201, 0));
-            }
-        };
-        if draft.rules == good.rules {
-            return (kind, draft.bytes(), answer);
-        }
-    }
-}
-
-/// Any byte of the file becomes another character; in a free position it is no fault.
-fn flipped_copy(random: &mut Random, good: &Draft) -> (&'static str, Vec<u8>, Answer) {
-    let mut file = good.bytes();
-    let at = random.below(file.len());
-    file[at] = *random.pick(CHARACTERS);
-    ("flipped", file, None)
 }

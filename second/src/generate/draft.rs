@@ -50,12 +50,12 @@ impl Draft {
     }
 }
 
-pub fn put(record: &mut Record, from: usize, text: &[u8]) {
+pub fn put(record: &mut [u8], from: usize, text: &[u8]) {
     record[from - 1..from - 1 + text.len()].copy_from_slice(text);
 }
 
 /// The number's last digits, as many as the field takes.
-pub fn put_number(record: &mut Record, from: usize, to: usize, value: u64) {
+pub fn put_number(record: &mut [u8], from: usize, to: usize, value: u64) {
     let mut rest = value;
     for byte in record[from - 1..to].iter_mut().rev() {
         *byte = b'0' + (rest % 10) as u8;
@@ -64,7 +64,7 @@ pub fn put_number(record: &mut Record, from: usize, to: usize, value: u64) {
 }
 
 /// The number in a field; what is no number counts as nothing.
-pub fn get_number(record: &Record, from: usize, to: usize) -> u64 {
+pub fn get_number(record: &[u8], from: usize, to: usize) -> u64 {
     std::str::from_utf8(&record[from - 1..to])
         .ok()
         .filter(|text| !text.starts_with('+'))

@@ -1,39 +1,32 @@
 //! Extractions: a session, a file, an entity, and a buffer full of something.
 
 use super::addressed::{
-    addressed_file, empty_file, fill_free_positions, largest_sums, largest_totals, one_batch,
-    renumber_batches, shared_file, smallest_batches, Addressed, Share,
+    addressed_file, empty_file, fill_free_positions, largest_sums, largest_totals,
+    renumber_batches, shared_file, Addressed, Share, ALL, ONE, SEVERAL,
 };
-use super::desk::damaged_copy;
-use super::draft::get_number;
-use super::meant::extract_length;
-use super::opening::{opening_for, refused_opening};
-use super::random::Random;
-use super::room::{any_size, filled};
-use super::{generate, large, Answer, Case, EXTRACTS};
-use crate::day::Opening;
+use super::case::{refused, Answer, Case};
+use super::copies::damaged_copy;
+use super::entities::named_in;
+use super::files::{any_generated, generate};
+use super::large;
+use super::lending::{written_after, Input, Lending};
+use super::meant::{extract_length, extract_of};
+use super::opening::some_opening;
+use super::random::{Random, EXTRACTS};
+use super::room::any_size;
 use crate::reading::RECORD;
-use crate::{Rules, Written};
+use crate::{Refusal, Rules, Session};
 
-/// One extraction, with the answer that was meant where it is known.
-pub struct ExtractCase {
-    pub family: &'static str,
-    pub opening: Opening,
-    /// What the session goes by, also after a refused opening.
-    pub rules: Rules,
+pub struct Extraction {
     pub entity: u64,
     pub file: Vec<u8>,
-    /// What the lent buffer holds before.
-    pub buffer: Vec<u8>,
-    pub meant: Answer,
 }
 
-/// A file and the rules it was made for, before anything is asked of it.
+pub type ExtractCase = Lending<Extraction>;
+
+/// A file, before anything is asked of it.
 struct Source {
-    family: &'static str,
-    rules: Rules,
-    file: Vec<u8>,
-    reading: Answer,
+    case: Case,
     /// Whom the file was made for, where it was made for one.
     entity: Option<usize>,
 }
@@ -45,53 +38,37 @@ const FULL: usize = 10_000;
 pub fn generate_extract(seed: u64, number: u64) -> ExtractCase {
     let mut random = Random::new(seed, EXTRACTS + number);
     let source = source(&mut random, seed, number);
-    let opened = if number >= LARGE && random.once_in(24) {
-        refused_opening(&mut random, &source.rules)
-    } else {
-        opening_for(&mut random, &source.rules)
-    };
+    let opened = some_opening(&mut random, &source.case.rules, number >= LARGE);
     // The few large files made for somebody are surely extracted for them, into enough room or one byte less.
     let sure = source.entity.filter(|_| number < LARGE);
     let entity = match sure {
         Some(entity) => entity as u64,
         None => any_entity(&mut random, &source, &opened.rules),
     };
-    let length = extract_length(&opened.rules, entity, &source.file);
-    let size = match sure {
+    let case = source.case;
+    let length = extract_length(&opened.rules, entity, &case.file);
+    let room = match sure {
         Some(_) if number >= LARGE - 2 => length - 1,
         Some(_) => length + *random.pick(&[0, 1, RECORD]),
         None => any_size(&mut random, length),
     };
-    let buffer = filled(&mut random, size);
-    let meant = meant(&opened.rules, &source, entity, buffer.len());
-    ExtractCase {
-        family: source.family,
-        opening: opened.opening,
-        rules: opened.rules,
-        entity,
-        file: source.file,
-        buffer,
-        meant,
-    }
+    let meant = meant(&opened.rules, entity, case.expected, length, room);
+    let file = case.file;
+    let input = Extraction { entity, file };
+    Lending::new(&mut random, case.family, opened, input, room, meant)
 }
 
 /// 208, then the reading's refusals, then 206.
-fn meant(rules: &Rules, source: &Source, entity: u64, room: usize) -> Answer {
+fn meant(rules: &Rules, entity: u64, reading: Answer, length: usize, room: usize) -> Answer {
     if !(1..=499).contains(&entity) || !rules.roster[entity as usize] {
-        return super::refused(208, 0);
+        return refused(208, 0);
     }
-    match source.reading? {
-        Err(refusal) => Some(Err(refusal)),
-        Ok(_) => match extract_length(rules, entity, &source.file) {
-            length if length > room => super::refused(206, 0),
-            length => Some(Ok(length)),
-        },
-    }
+    written_after(reading, length, room)
 }
 
 fn source(random: &mut Random, seed: u64, number: u64) -> Source {
     if number < large::LARGE {
-        return read_before(generate(seed, number));
+        return for_nobody(generate(seed, number));
     }
     if number < LARGE {
         return large_source(random, number - large::LARGE);
@@ -101,11 +78,7 @@ fn source(random: &mut Random, seed: u64, number: u64) -> Source {
         8..=10 => good_and_filled(random),
         11 => good("header and control", empty_file(random)),
         12..=14 => damaged(random),
-        // Any file of the readings but a large one, good and damaged.
-        15..=21 => {
-            let number = large::LARGE + random.below(1 << 40) as u64;
-            read_before(generate(seed, number))
-        }
+        15..=21 => for_nobody(any_generated(random, seed)),
         22 if random.once_in(3) => good("sums of twelve digits", largest_sums(random)),
         23 if random.once_in(4) => good("totals of eleven digits", largest_totals(random)),
         _ => good("addressed", addressed_file(random)),
@@ -113,25 +86,15 @@ fn source(random: &mut Random, seed: u64, number: u64) -> Source {
 }
 
 fn good(family: &'static str, addressed: Addressed) -> Source {
-    let Addressed { draft, entity } = addressed;
     Source {
-        family,
-        rules: draft.rules.clone(),
-        file: draft.bytes(),
-        reading: Some(Ok(draft.records.len())),
-        entity: Some(entity),
+        case: Case::good(family, &addressed.draft),
+        entity: Some(addressed.entity),
     }
 }
 
-/// A file of the readings, which was made for nobody.
-fn read_before(case: Case) -> Source {
-    Source {
-        family: case.family,
-        rules: case.rules,
-        file: case.file,
-        reading: case.expected,
-        entity: None,
-    }
+/// A file of the readings.
+fn for_nobody(case: Case) -> Source {
+    Source { case, entity: None }
 }
 
 fn good_and_filled(random: &mut Random) -> Source {
@@ -145,41 +108,36 @@ fn damaged(random: &mut Random) -> Source {
     let Addressed { draft, entity } = addressed_file(random);
     let (family, file, reading) = damaged_copy(random, &draft);
     Source {
-        family,
-        rules: draft.rules,
-        file,
-        reading,
+        case: Case::with(family, draft.rules, file, reading),
         entity: Some(entity),
     }
 }
 
 fn large_source(random: &mut Random, number: u64) -> Source {
-    let addressed = match number {
-        0 => shared_file(random, FULL, Share::All),
-        1 | 2 => shared_file(random, FULL, Share::Half),
-        3 => shared_file(random, FULL, Share::OneIn(1_000)),
-        4 => shared_file(random, FULL, Share::None),
-        5 => smallest_batches(random, FULL, Share::All),
-        6 => smallest_batches(random, FULL, Share::Half),
-        7 => one_batch(random, FULL, Share::All),
-        8 => one_batch(random, FULL, Share::Half),
-        9 => one_batch(random, FULL, Share::OneIn(1_000)),
-        10 => smallest_batches(random, FULL, Share::Half),
-        _ => shared_file(random, FULL, Share::All),
+    let (each, share) = match number {
+        1 | 2 => (SEVERAL, Share::Half),
+        3 => (SEVERAL, Share::OneIn(1_000)),
+        4 => (SEVERAL, Share::None),
+        5 => (ONE, Share::All),
+        6 | 10 => (ONE, Share::Half),
+        7 => (ALL, Share::All),
+        8 => (ALL, Share::Half),
+        9 => (ALL, Share::OneIn(1_000)),
+        _ => (SEVERAL, Share::All),
     };
-    good("10,000 records", addressed)
+    good("10,000 records", shared_file(random, FULL, each, share))
 }
 
 /// Those whom the file names for the most part; then others, and numbers of nobody.
 fn any_entity(random: &mut Random, source: &Source, rules: &Rules) -> u64 {
-    let addressees = named(&source.file, b'6', 4);
-    let addressee = any_of(random, &addressees);
+    let file = &source.case.file;
+    let addressee = any_of(random, &named(file, b'6'));
     let someone = source.entity.map_or(addressee, |entity| entity as u64);
     match random.below(20) {
         0..=10 => someone,
         11 | 12 => addressee,
-        13 => any_of(random, &named(&source.file, b'5', 80)),
-        14 => any_of(random, &named(&source.file, b'1', 15)),
+        13 => any_of(random, &named(file, b'5')),
+        14 => any_of(random, &named(file, b'1')),
         15 | 16 => on_roster(random, rules, true),
         17 => on_roster(random, rules, false),
         _ => no_entity(random, someone),
@@ -208,15 +166,13 @@ fn no_entity(random: &mut Random, someone: u64) -> u64 {
     ])
 }
 
-/// The entities in this field of all records of this type.
-fn named(file: &[u8], kind: u8, from: usize) -> Vec<u64> {
+/// The entities that all records of this type name.
+fn named(file: &[u8], kind: u8) -> Vec<u64> {
     let records = file.chunks_exact(RECORD);
     records
         .filter(|record| record[0] == kind)
-        .map(|record| {
-            let record = std::array::from_fn(|index| record[index]);
-            get_number(&record, from, from + 3) % 500
-        })
+        .filter_map(named_in)
+        .map(|named| named as u64 % 500)
         .filter(|&entity| entity > 0)
         .collect()
 }
@@ -237,25 +193,31 @@ fn on_roster(random: &mut Random, rules: &Rules, listed: bool) -> u64 {
     any_of(random, &wanted)
 }
 
+impl Input for Extraction {
+    fn run(&self, session: &Session, lent: &mut [u8]) -> Result<usize, Refusal> {
+        session.extract(self.entity, &self.file, lent)
+    }
+
+    fn needed(&self, rules: &Rules) -> usize {
+        extract_length(rules, self.entity, &self.file)
+    }
+
+    fn output(&self, rules: &Rules) -> Vec<u8> {
+        extract_of(rules, self.entity, &self.file)
+    }
+}
+
 impl ExtractCase {
     /// The same extraction for somebody else, into a buffer that takes any extract of the file.
     pub fn for_entity(&self, entity: u64) -> ExtractCase {
-        ExtractCase {
+        let file = self.input.file.clone();
+        Lending {
             family: self.family,
             opening: self.opening.clone(),
             rules: self.rules.clone(),
-            entity,
-            file: self.file.clone(),
-            buffer: self.file.iter().map(|byte| !byte).collect(),
+            buffer: file.iter().map(|byte| !byte).collect(),
+            input: Extraction { entity, file },
             meant: None,
         }
-    }
-
-    /// What it leaves behind in the second program.
-    pub fn run(&self) -> Written {
-        let (_, session) = self.opening.open();
-        Written::by(&self.buffer, |lent| {
-            session.extract(self.entity, &self.file, lent)
-        })
     }
 }

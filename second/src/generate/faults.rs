@@ -144,6 +144,27 @@ pub const NO_DATES: &[&[u8]] = &[
     b"121131", b"000132", b"000100", b"000001", b"001301", b"000000", b"991332", b"999999",
     b"500700", b"001232",
 ];
+const NO_TIME: Way = Texts(&[
+    b"2400", b"2360", b"0060", b"9900", b"0099", b" 000", b"000 ", b"0 00", b"00 0", b"   0",
+    b"0   ", b"  00", b"00  ", b"A000", b"000A", b"1:30", b"-100", b"3000",
+]);
+const NO_IDENTIFIER: Way = Texts(&[
+    b" ", b"#", b"*", b"@", b"_", b"/", b":", b"(", b"!", b"=", b"?", b"$", b".",
+]);
+const NO_CODE: Way = Texts(&[
+    b"33", b"38", b"35", b"30", b"34", b"39", b"22", b"27", b"47", b"00", b"  ", b"3 ", b" 7",
+    b"73", b"A7", b"3A", b"13", b"76", b"02",
+]);
+const NO_AMOUNT: Way = Texts(&[b"0000000000", b"         1", b"1         ", b"000000000 "]);
+const NO_INFORMATION: Way = Texts(&[
+    b"02", b"10", b"11", b"  ", b"0 ", b" 0", b" 1", b"99", b"1 ", b"0A", b"A0", b"09",
+]);
+const NO_FLAG: Way = Texts(&[b" ", b"2", b"9", b"A", b"/", b":", b"!", b"O"]);
+const NOT_01: Way = Texts(&[b"00", b"10", b"02", b" 1", b"1 ", b"  ", b"O1"]);
+const NOT_094101: Way = Texts(&[b"094100", b"094110", b"095101", b"09410 ", b" 94101"]);
+const NOT_99: Way = Texts(&[b"05", b"98", b"  ", b"9 ", b"00", b"09"]);
+const NOT_05: Way = Texts(&[b"99", b"04", b"  ", b"0 ", b" 5", b"50"]);
+const OTHER_COUNTER: &[Way] = &[Other, OtherDigit, OneMore, OneLess, Blanks];
 const SUM: &[Way] = &[
     OneMore,
     OneLess,
@@ -158,15 +179,7 @@ const SUM: &[Way] = &[
 
 const FILE_HEADER: &[Check] = &[
     CHARACTERS,
-    check(
-        17,
-        2,
-        3,
-        &[
-            Other,
-            Texts(&[b"00", b"10", b"02", b" 1", b"1 ", b"  ", b"O1"]),
-        ],
-    ),
+    check(17, 2, 3, &[Other, NOT_01]),
     check(17, 4, 4, &[Other]),
     check(17, 5, 12, NO_DIGITS),
     check(17, 13, 13, &[Other]),
@@ -175,32 +188,9 @@ const FILE_HEADER: &[Check] = &[
     check(17, 23, 23, &[Other]),
     check(75, 24, 29, NO_DATE),
     check(75, 24, 29, &[OtherDate, SharedNoDate]),
-    check(
-        17,
-        30,
-        33,
-        &[Texts(&[
-            b"2400", b"2360", b"0060", b"9900", b"0099", b" 000", b"000 ", b"0 00", b"00 0",
-            b"   0", b"0   ", b"  00", b"00  ", b"A000", b"000A", b"1:30", b"-100", b"3000",
-        ])],
-    ),
-    check(
-        17,
-        34,
-        34,
-        &[Texts(&[
-            b" ", b"#", b"*", b"@", b"_", b"/", b":", b"(", b"!", b"=", b"?", b"$", b".",
-        ])],
-    ),
-    check(
-        17,
-        35,
-        40,
-        &[
-            Other,
-            Texts(&[b"094100", b"094110", b"095101", b"09410 ", b" 94101"]),
-        ],
-    ),
+    check(17, 30, 33, &[NO_TIME]),
+    check(17, 34, 34, &[NO_IDENTIFIER]),
+    check(17, 35, 40, &[Other, NOT_094101]),
     check(203, 15, 22, &[OtherCurrency, OtherAbsent]),
     check(204, 15, 22, &[Absent]),
 ];
@@ -221,50 +211,17 @@ const BATCH_HEADER: &[Check] = &[
 
 const INDIVIDUAL: &[Check] = &[
     CHARACTERS,
-    check(
-        17,
-        2,
-        3,
-        &[Texts(&[
-            b"33", b"38", b"35", b"30", b"34", b"39", b"22", b"27", b"47", b"00", b"  ", b"3 ",
-            b" 7", b"73", b"A7", b"3A", b"13", b"76", b"02",
-        ])],
-    ),
+    check(17, 2, 3, &[NO_CODE]),
     check(17, 4, 11, NO_ENTITY),
     check(203, 4, 11, &[OtherCurrency, OtherAbsent]),
     check(204, 4, 11, &[Absent]),
     check(77, 12, 12, &[Other, OneBlank]),
     check(78, 13, 29, NO_DIGITS),
-    check(
-        19,
-        30,
-        39,
-        &[
-            NotDigit,
-            OneBlank,
-            Blanks,
-            Texts(&[b"0000000000", b"         1", b"1         ", b"000000000 "]),
-        ],
-    ),
+    check(19, 30, 39, &[NotDigit, OneBlank, Blanks, NO_AMOUNT]),
     check(79, 40, 54, &[Blanks]),
     check(17, 55, 76, &[Blanks]),
-    check(
-        87,
-        77,
-        78,
-        &[
-            Texts(&[
-                b"02", b"10", b"11", b"  ", b"0 ", b" 0", b" 1", b"99", b"1 ", b"0A", b"A0", b"09",
-            ]),
-            WrongInformation,
-        ],
-    ),
-    check(
-        17,
-        79,
-        79,
-        &[Texts(&[b" ", b"2", b"9", b"A", b"/", b":", b"!", b"O"])],
-    ),
+    check(87, 77, 78, &[NO_INFORMATION, WrongInformation]),
+    check(17, 79, 79, &[NO_FLAG]),
     check(25, 79, 79, &[FlagMissing]),
     check(17, 80, 94, NO_DIGITS),
     check(27, 80, 87, &[OtherDigit]),
@@ -273,30 +230,20 @@ const INDIVIDUAL: &[Check] = &[
 
 const MOTIVE: &[Check] = &[
     CHARACTERS,
-    check(
-        25,
-        2,
-        3,
-        &[Other, Texts(&[b"05", b"98", b"  ", b"9 ", b"00", b"09"])],
-    ),
+    check(25, 2, 3, &[Other, NOT_99]),
     check(17, 4, 4, &[Other]),
     check(17, 5, 6, NO_DIGITS),
     check(17, 7, 21, NO_DIGITS),
     check(17, 22, 27, &[Other]),
     check(17, 28, 35, NO_DIGITS),
-    check(25, 80, 94, &[Other, OtherDigit, OneMore, OneLess, Blanks]),
+    check(25, 80, 94, OTHER_COUNTER),
 ];
 
 const CONCEPT: &[Check] = &[
     CHARACTERS,
-    check(
-        25,
-        2,
-        3,
-        &[Other, Texts(&[b"99", b"04", b"  ", b"0 ", b" 5", b"50"])],
-    ),
+    check(25, 2, 3, &[Other, NOT_05]),
     check(17, 84, 87, NO_DIGITS),
-    check(25, 88, 94, &[Other, OtherDigit, OneMore, OneLess, Blanks]),
+    check(25, 88, 94, OTHER_COUNTER),
 ];
 
 const BATCH_CONTROL: &[Check] = &[

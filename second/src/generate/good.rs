@@ -1,9 +1,10 @@
 //! Good files of all shapes.
 
 use super::draft::{put, put_number, Draft, Record};
+use super::entities::{any_currency, entity_field, roster_with, some_entities};
 use super::random::Random;
 use crate::reading::RECORD;
-use crate::{Currency, Rules};
+use crate::Rules;
 
 /// What free positions hold.
 #[derive(Clone, Copy)]
@@ -24,6 +25,16 @@ pub enum Amounts {
 /// 10,000 of these stay within twelve digits.
 pub const MODEST: Amounts = Amounts::UpTo(99_999_999);
 
+/// Code and information of individual records with an additional; only the first may be without.
+pub const CODES: [(&[u8; 2], &[u8; 2]); 6] = [
+    (b"37", b"00"),
+    (b"37", b"01"),
+    (b"36", b"00"),
+    (b"36", b"01"),
+    (b"32", b"00"),
+    (b"31", b"00"),
+];
+
 /// A good file of which one part after another is made.
 pub struct Maker<'r> {
     pub random: &'r mut Random,
@@ -43,57 +54,36 @@ pub struct Maker<'r> {
 pub fn any_file(random: &mut Random) -> Draft {
     let batches = *random.pick(&[0, 1, 1, 1, 2, 2, 3, 4, 6]);
     let largest = *random.pick(&[1, 2, 4, 8]);
-    let mut maker = Maker::new(random);
-    for _ in 0..batches {
-        let entries = maker.random.between(1, largest);
-        maker.batch(entries);
-    }
-    maker.finish()
+    Maker::new(random).finish_with(batches, largest)
 }
 
 /// A file with at least one batch of several entries.
 pub fn file_with_batches(random: &mut Random) -> Draft {
     let batches = random.between(1, 3);
-    let mut maker = Maker::new(random);
-    for _ in 0..batches {
-        let entries = maker.random.between(1, 9);
-        maker.batch(entries);
-    }
-    maker.finish()
+    Maker::new(random).finish_with(batches, 9)
 }
 
 /// A small file for given rules: 2 to some 40 records.
 pub fn small_file(random: &mut Random, rules: &Rules, entities: &[usize]) -> Draft {
     let batches = *random.pick(&[0, 1, 1, 1, 2, 2, 3, 4]);
     let largest = *random.pick(&[1, 2, 4, 8]);
-    let mut maker = Maker::among(random, rules.clone(), entities.to_vec());
-    for _ in 0..batches {
-        let entries = maker.random.between(1, largest);
-        maker.batch(entries);
-    }
-    maker.finish()
+    Maker::among(random, rules.clone(), entities.to_vec()).finish_with(batches, largest)
 }
 
 /// A file for given rules of exactly so many records.
 pub fn long_file(random: &mut Random, rules: &Rules, entities: &[usize], records: usize) -> Draft {
-    let mut maker = Maker::among(random, rules.clone(), entities.to_vec());
-    maker.amounts = MODEST;
-    maker.fill_up(records);
-    maker.finish()
+    Maker::among(random, rules.clone(), entities.to_vec()).finish_at(records)
 }
 
 /// A file of exactly so many records, in batches of some twenty.
 pub fn file_of(random: &mut Random, records: usize) -> Draft {
-    let mut maker = Maker::new(random);
-    maker.amounts = MODEST;
-    maker.fill_up(records);
-    maker.finish()
+    Maker::new(random).finish_at(records)
 }
 
 impl<'r> Maker<'r> {
     pub fn new(random: &'r mut Random) -> Self {
         let entities = some_entities(random);
-        let currency = *random.pick(&[Currency::Pesos, Currency::Dollars]);
+        let currency = any_currency(random);
         let roster = roster_with(random, &entities);
         let date = any_date(random);
         let rules = Rules {
@@ -127,8 +117,18 @@ impl<'r> Maker<'r> {
         }
     }
 
-    /// Batches of some twenty entries until only the file control is missing.
-    pub fn fill_up(&mut self, records: usize) {
+    /// So many batches of up to so many entries, and the end.
+    fn finish_with(mut self, batches: usize, largest: usize) -> Draft {
+        for _ in 0..batches {
+            let entries = self.random.between(1, largest);
+            self.batch(entries);
+        }
+        self.finish()
+    }
+
+    /// Batches of some twenty entries of modest amounts, and the end, in exactly so many records.
+    fn finish_at(mut self, records: usize) -> Draft {
+        self.amounts = MODEST;
         self.begin();
         while self.records.len() + 1 < records {
             let room = records - 1 - self.records.len();
@@ -141,19 +141,37 @@ impl<'r> Maker<'r> {
             };
             self.batch(entries);
         }
+        self.finish()
     }
 
     /// A batch of exactly so many records of types 6 and 7.
     pub fn batch(&mut self, entries: usize) {
+        self.batch_with(|maker| {
+            let mut left = entries;
+            while left > 0 {
+                let additional = left > 1 && !maker.random.once_in(3);
+                maker.individual(additional);
+                left -= if additional { 2 } else { 1 };
+            }
+        });
+    }
+
+    /// A batch of so many orders without additional.
+    pub fn batch_of_orders(&mut self, orders: usize) {
+        self.batch_with(|maker| (0..orders).for_each(|_| maker.order()));
+    }
+
+    /// A batch of what `fill` puts into it.
+    pub fn batch_with(&mut self, fill: impl FnOnce(&mut Self)) {
         self.begin();
         self.batch_header();
-        let mut left = entries;
-        while left > 0 {
-            let additional = left > 1 && !self.random.once_in(3);
-            self.individual(additional);
-            left -= if additional { 2 } else { 1 };
-        }
+        fill(self);
         self.batch_control();
+    }
+
+    /// An order without additional.
+    pub fn order(&mut self) {
+        self.individual_of(b"37", b"00", false);
     }
 
     pub fn finish(mut self) -> Draft {
@@ -225,18 +243,10 @@ impl<'r> Maker<'r> {
 
     /// An individual record, with its additional or without.
     pub fn individual(&mut self, additional: bool) {
-        let (code, information) = if additional {
-            *self.random.pick(&[
-                (b"37", b"00"),
-                (b"37", b"01"),
-                (b"36", b"00"),
-                (b"36", b"01"),
-                (b"32", b"00"),
-                (b"31", b"00"),
-            ])
-        } else {
-            (b"37", b"00")
-        };
+        if !additional {
+            return self.order();
+        }
+        let (code, information) = *self.random.pick(&CODES);
         self.individual_of(code, information, additional);
     }
 
@@ -336,21 +346,6 @@ impl<'r> Maker<'r> {
     }
 }
 
-/// The entity with any branch.
-pub fn entity_field(random: &mut Random, currency: Currency, entity: usize) -> [u8; 8] {
-    let added = if currency == Currency::Dollars {
-        500
-    } else {
-        0
-    };
-    let any = random.below(10_000);
-    let branch = *random.pick(&[0, 1, 9_999, any]);
-    let mut form = [b' '; RECORD];
-    put_number(&mut form, 1, 4, (entity + added) as u64);
-    put_number(&mut form, 5, 8, branch as u64);
-    std::array::from_fn(|index| form[index])
-}
-
 /// The file's last individual record takes the highest number there is.
 fn end_at_last_sequence(draft: &mut Draft) {
     let Some(place) = draft.last_before(draft.records.len(), b'6') else {
@@ -360,30 +355,6 @@ fn end_at_last_sequence(draft: &mut Draft) {
     if draft.records[place + 1][0] == b'7' {
         put(&mut draft.records[place + 1], 88, b"9999999");
     }
-}
-
-pub fn some_entities(random: &mut Random) -> Vec<usize> {
-    (0..random.between(1, 6))
-        .map(|_| match random.below(5) {
-            0 => 1,
-            1 => 499,
-            _ => random.between(1, 499),
-        })
-        .collect()
-}
-
-/// Full, partial, or only those in use; entity 0 does not exist, so its cell may hold anything.
-pub fn roster_with(random: &mut Random, entities: &[usize]) -> [bool; 500] {
-    let mut roster = match random.below(3) {
-        0 => [true; 500],
-        1 => std::array::from_fn(|_| random.once_in(2)),
-        _ => [false; 500],
-    };
-    roster[0] = random.once_in(2);
-    for &entity in entities {
-        roster[entity] = true;
-    }
-    roster
 }
 
 pub fn any_date(random: &mut Random) -> u64 {
@@ -404,11 +375,11 @@ pub fn any_date(random: &mut Random) -> u64 {
 }
 
 fn any_time(random: &mut Random) -> [u8; 4] {
-    let mut form = [b' '; RECORD];
+    let mut field = [b' '; 4];
     if !random.once_in(3) {
         let any = random.below(24) * 100 + random.below(60);
         let time = *random.pick(&[0, 2359, any, any]);
-        put_number(&mut form, 1, 4, time as u64);
+        put_number(&mut field, 1, 4, time as u64);
     }
-    std::array::from_fn(|index| form[index])
+    field
 }

@@ -1,9 +1,9 @@
 //! The few large files: full ones, and control totals beyond ten digits.
 
+use super::case::{refused, Answer, Case};
 use super::draft::{put, put_number, Draft};
 use super::good::{file_of, Amounts, Maker, MODEST};
 use super::random::Random;
-use super::{refused, Answer, Case};
 use crate::reading::RECORD;
 use crate::Currency;
 
@@ -161,10 +161,7 @@ fn totals(random: &mut Random, currency: Currency, batches: &[usize], total: Tot
     // Small amounts, so that only the control totals run over.
     maker.amounts = Amounts::All(1);
     for &individuals in batches {
-        maker.begin();
-        maker.batch_header();
-        (0..individuals).for_each(|_| maker.individual_of(b"37", b"00", false));
-        maker.batch_control();
+        maker.batch_of_orders(individuals);
     }
     let mut draft = maker.finish();
     let end = draft.records.len() - 1;

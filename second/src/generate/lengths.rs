@@ -1,10 +1,10 @@
 //! Lengths that no file has, and bytes that are no file.
 
+use super::case::{accepted, refused, Answer, Case};
 use super::draft::Draft;
 use super::faults::Kind;
 use super::good::{any_file, file_with_batches};
-use super::random::Random;
-use super::{refused, Answer, Case};
+use super::random::{Random, CHARACTERS};
 use crate::reading::RECORD;
 
 pub fn damaged_length(random: &mut Random) -> Case {
@@ -58,8 +58,8 @@ pub fn flipped(random: &mut Random, run: usize, value: u8) -> Case {
     let at = *random.pick(&places) * RECORD + position;
     let mut file = draft.bytes();
     let expected: Answer = if file[at] == value {
-        Some(Ok(draft.records.len()))
-    } else if !super::random::CHARACTERS.contains(&value) {
+        accepted(&draft)
+    } else if !CHARACTERS.contains(&value) {
         refused(17, at / RECORD)
     } else {
         None

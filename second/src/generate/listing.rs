@@ -1,13 +1,14 @@
 //! Standard inputs of the program `positions`: good files, damaged ones, and no files at all.
 
+use super::case::{accepted, refused, Answer};
 use super::damage::put_fault;
 use super::draft::{get_number, put, Draft};
+use super::entities::{any_currency, entity_field, some_entities};
 use super::faults::NO_DATES;
-use super::good::{any_date, entity_field, long_file, small_file, some_entities, Amounts, Maker};
+use super::good::{any_date, long_file, small_file, Amounts, Maker};
 use super::opening::shuffle;
-use super::random::Random;
+use super::random::{Random, LISTINGS};
 use super::structure::disorder;
-use super::{refused, Answer, LISTINGS};
 use crate::reading::RECORD;
 use crate::{Currency, Rules};
 
@@ -41,7 +42,7 @@ pub fn generate_listing(seed: u64, number: u64) -> ListingCase {
 fn any_rules(random: &mut Random) -> Rules {
     Rules {
         date: any_date(random),
-        currency: *random.pick(&[Currency::Pesos, Currency::Dollars]),
+        currency: any_currency(random),
         roster: [true; 500],
     }
 }
@@ -54,10 +55,6 @@ fn case(family: &'static str, draft: &Draft, meant: Answer) -> ListingCase {
     }
 }
 
-fn good(draft: &Draft) -> Answer {
-    Some(Ok(draft.records.len()))
-}
-
 fn any_small(random: &mut Random, rules: &Rules) -> Draft {
     let entities = some_entities(random);
     small_file(random, rules, &entities)
@@ -65,7 +62,7 @@ fn any_small(random: &mut Random, rules: &Rules) -> Draft {
 
 fn good_small(random: &mut Random, rules: &Rules) -> ListingCase {
     let draft = any_small(random, rules);
-    case("good", &draft, good(&draft))
+    case("good", &draft, accepted(&draft))
 }
 
 fn of_records(random: &mut Random, rules: &Rules, records: usize) -> Draft {
@@ -78,7 +75,7 @@ fn of_records(random: &mut Random, rules: &Rules, records: usize) -> Draft {
 fn good_long(random: &mut Random, rules: &Rules) -> ListingCase {
     let records = random.between(50, LONGEST);
     let draft = of_records(random, rules, records);
-    case("good and long", &draft, good(&draft))
+    case("good and long", &draft, accepted(&draft))
 }
 
 /// A record to each of the 499: the longest listing there is.
@@ -89,18 +86,17 @@ fn everybody(random: &mut Random, rules: Rules) -> ListingCase {
     let mut maker = Maker::among(random, rules, entities.clone());
     // 499 of these stay within twelve digits.
     maker.amounts = Amounts::UpTo(2_000_000_000);
-    maker.begin();
     for part in entities.chunks(499_usize.div_ceil(batches)) {
-        maker.batch_header();
-        for &entity in part {
-            let field = entity_field(maker.random, maker.rules.currency, entity);
-            maker.destination = Some(field);
-            maker.individual_of(b"37", b"00", false);
-        }
-        maker.batch_control();
+        maker.batch_with(|maker| {
+            for &entity in part {
+                let field = entity_field(maker.random, maker.rules.currency, entity);
+                maker.destination = Some(field);
+                maker.order();
+            }
+        });
     }
     let draft = maker.finish();
-    case("everybody", &draft, good(&draft))
+    case("everybody", &draft, accepted(&draft))
 }
 
 /// Up to 100 of the largest amounts each way: positions of twelve digits and more.
@@ -109,17 +105,16 @@ fn largest_amounts(random: &mut Random, rules: Rules) -> ListingCase {
     let each = random.between(1, 100);
     let mut maker = Maker::among(random, rules, entities);
     maker.amounts = Amounts::All(9_999_999_999);
-    maker.begin();
     for codes in [[b"37", b"36"], [b"32", b"31"]] {
-        maker.batch_header();
-        for _ in 0..each {
-            let code = *maker.random.pick(&codes);
-            maker.individual_of(code, b"00", true);
-        }
-        maker.batch_control();
+        maker.batch_with(|maker| {
+            for _ in 0..each {
+                let code = *maker.random.pick(&codes);
+                maker.individual_of(code, b"00", true);
+            }
+        });
     }
     let draft = maker.finish();
-    case("largest amounts", &draft, good(&draft))
+    case("largest amounts", &draft, accepted(&draft))
 }
 
 fn no_date(random: &mut Random, rules: &Rules) -> ListingCase {
@@ -154,7 +149,7 @@ fn odd_origin(random: &mut Random, rules: &Rules) -> ListingCase {
         None => refused(17, 0),
         // The listing follows the origin, so that the first sender is of the other currency.
         Some(currency) if currency != rules.currency && batches => refused(203, 1),
-        Some(_) => good(&draft),
+        Some(_) => accepted(&draft),
     };
     case("odd origin", &draft, meant)
 }
@@ -215,7 +210,7 @@ fn whole(random: &mut Random, rules: &Rules, records: usize) -> ListingCase {
     let meant = if records > LONGEST {
         refused(201, 0)
     } else {
-        good(&draft)
+        accepted(&draft)
     };
     case("length of a good file", &draft, meant)
 }

@@ -1,6 +1,7 @@
 //! The extract that a good file should give, made as a draft whose controls are computed anew.
 
 use super::draft::{get_number, put, put_number, Draft, Record};
+use super::entities::field_number;
 use crate::reading::RECORD;
 use crate::Rules;
 
@@ -10,14 +11,6 @@ pub fn records_of(file: &[u8]) -> Vec<Record> {
     whole
         .map(|record| std::array::from_fn(|index| record[index]))
         .collect()
-}
-
-/// The entity's number in fields of the session's currency.
-fn field_number(rules: &Rules, entity: u64) -> u64 {
-    match rules.currency {
-        crate::Currency::Pesos => entity,
-        crate::Currency::Dollars => entity.saturating_add(500),
-    }
 }
 
 /// Individual records to the entity, each with the additionals behind it, batch by batch.
@@ -45,7 +38,7 @@ fn batches_to(records: &[Record], entity: u64) -> Vec<(Record, Vec<Record>)> {
 
 /// The extract's length: 94 * (2 + 2 * batches + records and additionals to the entity).
 pub fn extract_length(rules: &Rules, entity: u64, file: &[u8]) -> usize {
-    let batches = batches_to(&records_of(file), field_number(rules, entity));
+    let batches = batches_to(&records_of(file), field_number(rules.currency, entity));
     let entries: usize = batches.iter().map(|(_, entries)| entries.len()).sum();
     RECORD * (2 + 2 * batches.len() + entries)
 }
@@ -53,7 +46,7 @@ pub fn extract_length(rules: &Rules, entity: u64, file: &[u8]) -> usize {
 /// The extract of a file that the reading accepts, for an entity on the roster.
 pub fn extract_of(rules: &Rules, entity: u64, file: &[u8]) -> Vec<u8> {
     let records = records_of(file);
-    let entity = field_number(rules, entity);
+    let entity = field_number(rules.currency, entity);
     let mut extract = vec![header_to(&records[0], entity)];
     for (index, (header, entries)) in batches_to(&records, entity).into_iter().enumerate() {
         let mut numbered = header;

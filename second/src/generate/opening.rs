@@ -1,5 +1,7 @@
 //! Openings: good ones of all rosters, and those to be refused.
 
+use super::draft::get_number;
+use super::entities::any_currency;
 use super::faults::NO_DATES;
 use super::good::any_date;
 use super::random::Random;
@@ -36,7 +38,7 @@ const NO_ENTITIES: [u64; 16] = [
 ];
 
 pub fn any_opening(random: &mut Random) -> Opened {
-    let currency = *random.pick(&[Currency::Pesos, Currency::Dollars]);
+    let currency = any_currency(random);
     let opening = Opening {
         date: any_date(random),
         currency,
@@ -87,9 +89,7 @@ pub fn refused(family: &'static str, opening: Opening, number: u16) -> Opened {
 
 pub fn of_no_date(random: &mut Random, mut opening: Opening, family: &'static str) -> Opened {
     let text = *random.pick(NO_DATES);
-    let spelled = text
-        .iter()
-        .fold(0, |value, byte| value * 10 + u64::from(byte - b'0'));
+    let spelled = get_number(text, 1, text.len());
     let good = opening.date;
     opening.date = *random.pick(&[
         spelled,
@@ -166,7 +166,7 @@ pub fn shuffle<T>(random: &mut Random, list: &mut [T]) {
 }
 
 /// An opening that gives these rules, unless no opening does.
-pub fn opening_for(random: &mut Random, rules: &Rules) -> Opened {
+fn opening_for(random: &mut Random, rules: &Rules) -> Opened {
     let mut entities: Vec<u64> = (1..500)
         .filter(|&entity| rules.roster[entity as usize])
         .collect();
@@ -186,8 +186,17 @@ pub fn opening_for(random: &mut Random, rules: &Rules) -> Opened {
     }
 }
 
+/// An opening that gives these rules; where that is allowed, one in twenty-four is refused instead.
+pub fn some_opening(random: &mut Random, rules: &Rules, or_refused: bool) -> Opened {
+    if or_refused && random.once_in(24) {
+        refused_opening(random, rules)
+    } else {
+        opening_for(random, rules)
+    }
+}
+
 /// The session is then that of 000101, pesos, nobody, and sometimes the file would suit it but for the roster.
-pub fn refused_opening(random: &mut Random, rules: &Rules) -> Opened {
+fn refused_opening(random: &mut Random, rules: &Rules) -> Opened {
     let opening = opening_for(random, rules).opening;
     if random.once_in(2) {
         of_no_date(random, opening, "no date")

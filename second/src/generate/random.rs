@@ -4,6 +4,14 @@ pub struct Random {
     state: [u64; 4],
 }
 
+/// The kinds of generated things draw from streams of their own, each from its seed and number.
+pub const FLIPS: u64 = 1 << 63;
+pub const DAYS: u64 = 1 << 62;
+pub const LISTINGS: u64 = 1 << 61;
+pub const EXTRACTS: u64 = 1 << 60;
+pub const TRAYS: u64 = 1 << 59;
+pub const STRIPS: u64 = 1 << 58;
+
 /// The 57 good characters.
 pub const CHARACTERS: &[u8; 57] = b" !#$%()*+,-./0123456789:;<=>?@ABCDEFGHIJKLMNOPQRSTUVWXYZ_";
 

@@ -1,11 +1,11 @@
 //! Rules that do not suit the file: date, currency and roster.
 
+use super::case::{accepted, refused, Answer, Case};
 use super::damage::first_use;
 use super::draft::{put_number, Draft};
+use super::entities;
 use super::good::{any_date, any_file};
 use super::random::Random;
-use super::{refused, Answer, Case};
-use crate::Currency;
 
 pub fn damaged_rules(random: &mut Random) -> Case {
     let mut draft = any_file(random);
@@ -43,7 +43,7 @@ fn no_date(random: &mut Random, draft: &mut Draft) -> Answer {
     put_number(&mut draft.records[0], 24, 29, date);
     // 430 is the thirtieth of April 2000, the one good date among them.
     if date == 430 {
-        Some(Ok(draft.records.len()))
+        accepted(draft)
     } else {
         refused(75, 0)
     }
@@ -62,10 +62,7 @@ fn too_many_digits(random: &mut Random, draft: &mut Draft) -> Answer {
 }
 
 fn other_currency(draft: &mut Draft) -> Answer {
-    draft.rules.currency = match draft.rules.currency {
-        Currency::Pesos => Currency::Dollars,
-        Currency::Dollars => Currency::Pesos,
-    };
+    draft.rules.currency = entities::other_currency(draft.rules.currency);
     refused(203, 0)
 }
 
@@ -76,7 +73,7 @@ fn empty_roster(draft: &mut Draft) -> Answer {
 
 fn exact_roster(draft: &mut Draft) -> Answer {
     draft.rules.roster = std::array::from_fn(|entity| first_use(draft, entity).is_some());
-    Some(Ok(draft.records.len()))
+    accepted(draft)
 }
 
 fn strike(random: &mut Random, draft: &mut Draft) -> Answer {
@@ -96,6 +93,6 @@ fn strike(random: &mut Random, draft: &mut Draft) -> Answer {
     draft.rules.roster[struck] = false;
     match first_use(draft, struck) {
         Some(place) => refused(204, place),
-        None => Some(Ok(draft.records.len())),
+        None => accepted(draft),
     }
 }

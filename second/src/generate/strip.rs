@@ -1,39 +1,31 @@
 //! Strippings: a session, a file, and a buffer full of something.
 
 use super::addressed::{fill_free_positions, renumber_batches};
-use super::built::{make_as_built, stripped_length};
-use super::desk::damaged_copy;
+use super::built::{make_as_built, number_individuals, stripped_length, stripped_of};
+use super::case::Case;
+use super::copies::damaged_copy;
 use super::draft::{put_number, Draft};
+use super::files::{any_generated, generate};
 use super::good::{any_file, file_with_batches};
-use super::opening::{opening_for, refused_opening};
-use super::random::Random;
-use super::room::{any_room, filled};
-use super::{generate, large, refused, Answer, Case, STRIPS};
-use crate::day::Opening;
+use super::large;
+use super::lending::{written_after, Input, Lending};
+use super::opening::some_opening;
+use super::random::{Random, STRIPS};
+use super::room::any_room;
 use crate::tray::TRAY_RECORD;
-use crate::{strip, Rules, Written};
+use crate::{strip, Refusal, Rules, Session};
 
-/// One stripping, with the answer that was meant where it is known.
-pub struct StripCase {
-    pub family: &'static str,
-    pub opening: Opening,
-    /// What the session goes by, also after a refused opening.
-    pub rules: Rules,
+pub struct Stripping {
     pub file: Vec<u8>,
-    /// What the lent buffer holds before.
-    pub buffer: Vec<u8>,
-    pub meant: Answer,
 }
+
+pub type StripCase = Lending<Stripping>;
 
 pub fn generate_strip(seed: u64, number: u64) -> StripCase {
     let mut random = Random::new(seed, STRIPS + number);
     let case = source(&mut random, seed, number);
     let large = number < large::LARGE;
-    let opened = if !large && random.once_in(24) {
-        refused_opening(&mut random, &case.rules)
-    } else {
-        opening_for(&mut random, &case.rules)
-    };
+    let opened = some_opening(&mut random, &case.rules, !large);
     let length = stripped_length(&case.file);
     let room = match number {
         // The large files get enough room, but for one.
@@ -42,23 +34,9 @@ pub fn generate_strip(seed: u64, number: u64) -> StripCase {
         _ => any_room(&mut random, length),
     };
     let reading = case.expected.filter(|_| opened.answer.is_ok());
-    StripCase {
-        family: case.family,
-        opening: opened.opening,
-        rules: opened.rules,
-        file: case.file,
-        buffer: filled(&mut random, room),
-        meant: meant(reading, length, room),
-    }
-}
-
-/// The reading's refusals, then 206.
-fn meant(reading: Answer, length: usize, room: usize) -> Answer {
-    match reading? {
-        Err(refusal) => Some(Err(refusal)),
-        Ok(_) if length > room => refused(206, 0),
-        Ok(_) => Some(Ok(length)),
-    }
+    let meant = written_after(reading, length, room);
+    let input = Stripping { file: case.file };
+    Lending::new(&mut random, case.family, opened, input, room, meant)
 }
 
 fn source(random: &mut Random, seed: u64, number: u64) -> Case {
@@ -74,8 +52,7 @@ fn source(random: &mut Random, seed: u64, number: u64) -> Case {
         12 | 13 => good(random, "as built but for one counter", other_counter),
         14 | 15 => good(random, "as built but for a free position", filled_once),
         16..=18 => damaged(random),
-        // Any file of the readings but a large one, good and damaged.
-        _ => generate(seed, large::LARGE + random.below(1 << 40) as u64),
+        _ => any_generated(random, seed),
     }
 }
 
@@ -90,7 +67,7 @@ fn good(
         file_with_batches(random)
     };
     change(random, &mut draft);
-    Case::of(family, &draft, Some(Ok(draft.records.len())))
+    Case::good(family, &draft)
 }
 
 fn damaged(random: &mut Random) -> Case {
@@ -120,20 +97,10 @@ fn other_counter(random: &mut Random, draft: &mut Draft) {
     if individuals.is_empty() {
         return;
     }
-    let first = individuals[random.position(1, individuals.len()) - 1];
+    let before = random.position(1, individuals.len()) - 1;
     let more = *random.pick(&[1, 1, 9, 1_000_000]);
-    let mut counter = individuals.iter().filter(|&&place| place < first).count() as u64 + more;
-    for place in first..draft.records.len() {
-        let record = &mut draft.records[place];
-        match record[0] {
-            b'6' => {
-                counter += 1;
-                put_number(record, 88, 94, counter);
-            }
-            b'7' => put_number(record, 88, 94, counter),
-            _ => {}
-        }
-    }
+    let rest = &mut draft.records[individuals[before]..];
+    number_individuals(rest, before as u64 + more);
 }
 
 /// One free position of one control is not blank.
@@ -148,12 +115,16 @@ fn filled_once(random: &mut Random, draft: &mut Draft) {
     record[position - 1] = random.character_with(|byte| byte != b' ');
 }
 
-impl StripCase {
-    /// What it leaves behind in the second program.
-    pub fn run(&self) -> Written {
-        let (_, session) = self.opening.open();
-        Written::by(&self.buffer, |lent| {
-            strip(session.rules(), &self.file, lent)
-        })
+impl Input for Stripping {
+    fn run(&self, session: &Session, lent: &mut [u8]) -> Result<usize, Refusal> {
+        strip(session.rules(), &self.file, lent)
+    }
+
+    fn needed(&self, _: &Rules) -> usize {
+        stripped_length(&self.file)
+    }
+
+    fn output(&self, _: &Rules) -> Vec<u8> {
+        stripped_of(&self.file)
     }
 }

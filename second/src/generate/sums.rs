@@ -1,9 +1,9 @@
 //! Amount sums around thirteen digits, in a batch and only in the file.
 
+use super::case::{refused, Case};
 use super::draft::{put_number, Draft};
 use super::good::{Amounts, Maker};
 use super::random::Random;
-use super::{refused, Case};
 
 const LARGEST: u64 = 9_999_999_999;
 
@@ -12,65 +12,61 @@ const LAST_CENTS: u64 = 99;
 
 pub fn amount_sums(random: &mut Random) -> Case {
     let debits = random.once_in(2);
-    match random.below(5) {
-        0 => limit_in_batch(random, debits, LAST_CENTS),
-        1 => limit_in_batch(random, debits, LAST_CENTS + 1),
-        2 => limit_in_batch(random, debits, LARGEST),
-        3 => limit_in_file(random, debits, LAST_CENTS),
-        _ => limit_in_file(random, debits, LAST_CENTS + 1),
+    let (in_file, last) = match random.below(5) {
+        0 => (false, LAST_CENTS),
+        1 => (false, LAST_CENTS + 1),
+        2 => (false, LARGEST),
+        3 => (true, LAST_CENTS),
+        _ => (true, LAST_CENTS + 1),
+    };
+    if in_file {
+        // Two batches, each within twelve digits.
+        let first = random.between(1, 99);
+        let batches = [first, 101 - first];
+        limit(
+            random,
+            "thirteen digits in the file",
+            debits,
+            &batches,
+            last,
+        )
+    } else {
+        limit(random, "thirteen digits in a batch", debits, &[101], last)
     }
 }
 
-/// One batch whose sum is 100 largest amounts and `last`.
-fn limit_in_batch(random: &mut Random, debits: bool, last: u64) -> Case {
+/// Batches whose sum is 100 largest amounts and `last`.
+fn limit(
+    random: &mut Random,
+    family: &'static str,
+    debits: bool,
+    batches: &[usize],
+    last: u64,
+) -> Case {
     let mut maker = Maker::new(random);
     maker.amounts = Amounts::All(LARGEST);
-    add_batch(&mut maker, debits, 101);
-    let draft = with_last_amount(maker.finish(), last);
-    let control = draft.records.len() - 2;
-    let expected = if last > LAST_CENTS {
-        refused(17, control)
-    } else {
-        good(&draft)
-    };
-    Case::of("thirteen digits in a batch", &draft, expected)
-}
-
-/// Two batches, each within twelve digits.
-fn limit_in_file(random: &mut Random, debits: bool, last: u64) -> Case {
-    let first = random.between(1, 99);
-    let mut maker = Maker::new(random);
-    maker.amounts = Amounts::All(LARGEST);
-    add_batch(&mut maker, debits, first);
-    add_batch(&mut maker, debits, 101 - first);
-    let draft = with_last_amount(maker.finish(), last);
-    let control = draft.records.len() - 1;
-    let expected = if last > LAST_CENTS {
-        refused(17, control)
-    } else {
-        good(&draft)
-    };
-    Case::of("thirteen digits in the file", &draft, expected)
-}
-
-fn good(draft: &Draft) -> super::Answer {
-    Some(Ok(draft.records.len()))
-}
-
-fn add_batch(maker: &mut Maker, debits: bool, individuals: usize) {
-    maker.begin();
-    maker.batch_header();
-    for _ in 0..individuals {
-        if !debits {
-            let code = *maker.random.pick(&[b"32", b"31"]);
-            maker.individual_of(code, b"00", true);
-        } else if maker.random.once_in(4) {
-            maker.individual_of(b"36", b"01", true);
-        } else {
-            maker.individual_of(b"37", b"00", false);
-        }
+    for &individuals in batches {
+        maker.batch_with(|maker| (0..individuals).for_each(|_| add(maker, debits)));
     }
-    maker.batch_control();
+    let draft = with_last_amount(maker.finish(), last);
+    if last <= LAST_CENTS {
+        return Case::good(family, &draft);
+    }
+    // The control of a single batch comes before the file's.
+    let behind = if batches.len() == 1 { 1 } else { 0 };
+    let control = draft.records.len() - 1 - behind;
+    Case::of(family, &draft, refused(17, control))
+}
+
+fn add(maker: &mut Maker, debit: bool) {
+    if !debit {
+        let code = *maker.random.pick(&[b"32", b"31"]);
+        maker.individual_of(code, b"00", true);
+    } else if maker.random.once_in(4) {
+        maker.individual_of(b"36", b"01", true);
+    } else {
+        maker.order();
+    }
 }
 
 /// The controls keep the last twelve digits.

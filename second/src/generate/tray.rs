@@ -6,69 +6,58 @@ mod order;
 mod size;
 
 use super::addressed::{fill_free_positions, largest_sums, largest_totals};
-use super::built::{build_meant, built_length};
+use super::built::{build_meant, built_length, built_of, LONGEST};
+use super::case::{refused, Answer};
 use super::damage::{bad_byte, put_body_fault};
 use super::faults::Kind;
+use super::files::any_generated;
 use super::good::{any_file, file_with_batches};
-use super::opening::{opening_for, refused_opening};
-use super::random::{Random, CHARACTERS};
-use super::room::{any_room, filled};
+use super::lending::{Input, Lending};
+use super::opening::some_opening;
+use super::random::{Random, CHARACTERS, TRAYS};
+use super::room::any_room;
 use super::session::damaged_rules;
 use super::sums::amount_sums;
-use super::{generate, large, refused, Answer, TRAYS};
-use crate::day::Opening;
-use crate::reading::{MOST_RECORDS, RECORD};
+use crate::reading::RECORD;
 use crate::tray::TRAY_RECORD;
-use crate::{build, Refusal, Rules, Written};
+use crate::{build, Refusal, Rules, Session};
 use draft::{tray_records, TrayDraft};
 use form::{any_record, break_kind, break_mark, break_record, break_tail, lengthen, resize_header};
 
-/// One building, with the answer that was meant.
-pub struct TrayCase {
-    pub family: &'static str,
-    pub opening: Opening,
-    /// What the session goes by, also after a refused opening.
-    pub rules: Rules,
+pub struct Building {
     pub header: Vec<u8>,
     pub tray: Vec<u8>,
-    /// What the lent buffer holds before.
-    pub buffer: Vec<u8>,
     /// What the reading says of the built file, or would but for other refusals, where the generator knows it by itself.
     pub reading: Answer,
-    pub meant: Result<usize, Refusal>,
 }
+
+/// The answer is always known.
+pub type TrayCase = Lending<Building>;
 
 pub fn generate_tray(seed: u64, number: u64) -> TrayCase {
     let mut random = Random::new(seed, TRAYS + number);
-    let draft = match number.checked_sub(size::LARGE) {
-        None => size::large_tray(&mut random, number),
-        Some(number) => any_tray(&mut random, seed, number),
-    };
-    let opened = if number >= size::LARGE && random.once_in(24) {
-        refused_opening(&mut random, &draft.rules)
+    let large = number < size::LARGE;
+    let draft = if large {
+        size::large_tray(&mut random, number)
     } else {
-        opening_for(&mut random, &draft.rules)
+        any_tray(&mut random, seed, number - size::LARGE)
     };
+    let opened = some_opening(&mut random, &draft.rules, !large);
     let tray = draft.bytes();
     let length = built_length(&tray);
     let room = match number {
         // The few files of 10,000 records get enough room, or one byte less.
         1 => length - 1,
-        _ if number < size::LARGE && length <= MOST_RECORDS * RECORD => {
-            length + *random.pick(&[0, 1, RECORD])
-        }
+        _ if large && length <= LONGEST => length + *random.pick(&[0, 1, RECORD]),
         _ => any_room(&mut random, length),
     };
-    TrayCase {
-        family: draft.family,
-        meant: build_meant(&opened.rules, &draft.header, &tray, room),
-        reading: draft.reading.filter(|_| opened.answer.is_ok()),
-        opening: opened.opening,
-        rules: opened.rules,
+    let meant = build_meant(&opened.rules, &draft.header, &tray, room);
+    let input = Building {
         header: draft.header,
         tray,
-        buffer: filled(&mut random, room),
-    }
+        reading: draft.reading.filter(|_| opened.answer.is_ok()),
+    };
+    Lending::new(&mut random, draft.family, opened, input, room, Some(meant))
 }
 
 /// Each twenty-four trays hold all families.
@@ -90,17 +79,10 @@ fn any_tray(random: &mut Random, seed: u64, number: u64) -> TrayDraft {
         18 => with_header_resized(random),
         19 => twice_broken(random),
         20 => faulty_and_broken(random),
-        21 => {
-            let number = large::LARGE + random.below(1 << 40) as u64;
-            TrayDraft::of_case(generate(seed, number), None)
-        }
+        21 => TrayDraft::of_case(any_generated(random, seed)).unknown(),
         22 if round.is_multiple_of(2) => size::near_limit(random),
         22 => any_bytes(random),
-        _ => {
-            let case = damaged_rules(random);
-            let reading = case.expected;
-            TrayDraft::of_case(case, reading)
-        }
+        _ => TrayDraft::of_case(damaged_rules(random)),
     }
 }
 
@@ -110,31 +92,20 @@ fn good(random: &mut Random) -> TrayDraft {
     if random.once_in(4) {
         fill_free_positions(random, &mut draft);
     }
-    TrayDraft::of("good", &draft, Some(Ok(draft.records.len())))
+    TrayDraft::good("good", &draft)
 }
 
-fn with_batches(random: &mut Random) -> TrayDraft {
-    let draft = file_with_batches(random);
-    TrayDraft::of("good", &draft, Some(Ok(draft.records.len())))
+fn with_batches(random: &mut Random, family: &'static str) -> TrayDraft {
+    TrayDraft::good(family, &file_with_batches(random))
 }
 
 /// Sums at the ends of their fields; rare, since these trays are long.
 fn summed(random: &mut Random) -> TrayDraft {
     match random.below(8) {
-        0 => {
-            let draft = largest_totals(random).draft;
-            TrayDraft::of("largest totals", &draft, Some(Ok(draft.records.len())))
-        }
-        1 => {
-            let draft = largest_sums(random).draft;
-            TrayDraft::of("largest sums", &draft, Some(Ok(draft.records.len())))
-        }
-        2..=4 => {
-            // Controls stand where they stood, so that the answer is the same.
-            let case = amount_sums(random);
-            let reading = case.expected;
-            TrayDraft::of_case(case, reading)
-        }
+        0 => TrayDraft::good("largest totals", &largest_totals(random).draft),
+        1 => TrayDraft::good("largest sums", &largest_sums(random).draft),
+        // Controls stand where they stood, so that the answer is the same.
+        2..=4 => TrayDraft::of_case(amount_sums(random)),
         _ => good(random),
     }
 }
@@ -148,14 +119,14 @@ fn faulty(random: &mut Random, kinds: &[Kind]) -> TrayDraft {
 
 /// With a tray or without.
 fn header_fault(random: &mut Random) -> TrayDraft {
+    const FAMILY: &str = "fault in the header body";
     let mut tray = faulty(random, &[Kind::FileHeader]);
-    tray.family = "fault in the header body";
+    tray.family = FAMILY;
     match random.below(4) {
         0 => tray.records.clear(),
         1 => {
             // No header at all, or one of another type.
-            tray = with_batches(random);
-            tray.family = "fault in the header body";
+            tray = with_batches(random, FAMILY);
             tray.header[0] = *random.pick(b"056789 A\xff");
             tray.reading = refused(17, 0);
         }
@@ -166,9 +137,7 @@ fn header_fault(random: &mut Random) -> TrayDraft {
 
 /// Some bytes become others that may be as good; what comes of it is not known here.
 fn changed(random: &mut Random) -> TrayDraft {
-    let mut draft = with_batches(random);
-    draft.family = "bytes changed";
-    draft.reading = None;
+    let mut draft = with_batches(random, "bytes changed").unknown();
     for _ in 0..random.between(1, 4) {
         // The form stays: position 1 and those from 88 on are left alone.
         let index = random.between(3, 88);
@@ -179,35 +148,30 @@ fn changed(random: &mut Random) -> TrayDraft {
 
 /// A bad character anywhere but in the type and the tail.
 fn bad_character(random: &mut Random) -> TrayDraft {
-    let mut draft = with_batches(random);
-    draft.family = "bad character";
+    let mut draft = with_batches(random, "bad character");
     let place = random.below(draft.records.len());
     let index = random.position(3, 88);
     draft.records[place][index] = bad_byte(random);
-    draft.reading = refused(17, draft.place_in_file(place));
-    draft
+    draft.refused_at(17, place)
 }
 
 /// No digit in 80-87, of which the table holds no row that ends before the tail.
 fn bad_sender(random: &mut Random) -> TrayDraft {
-    let mut draft = with_batches(random);
-    draft.family = "sender's digits";
+    let mut draft = with_batches(random, "sender's digits");
     let place = random.below(draft.records.len());
     let index = random.position(81, 88);
     let record = &mut draft.records[place];
     record[index] = random.character_with(|byte| !byte.is_ascii_digit());
-    let number = match &record[..5] {
-        b"AD799" => 25,
+    match &record[..5] {
+        b"AD799" => draft.refused_at(25, place),
         // 80-83 of a concept are free.
-        b"AD705" if index < 85 => return draft,
-        _ => 17,
-    };
-    draft.reading = refused(number, draft.place_in_file(place));
-    draft
+        b"AD705" if index < 85 => draft,
+        _ => draft.refused_at(17, place),
+    }
 }
 
 fn disordered(random: &mut Random) -> TrayDraft {
-    let mut draft = with_batches(random);
+    let mut draft = with_batches(random, "good");
     order::disorder(random, &mut draft);
     draft
 }
@@ -217,8 +181,7 @@ fn broken(
     family: &'static str,
     breaking: fn(&mut Random, &mut [u8; TRAY_RECORD]),
 ) -> TrayDraft {
-    let mut draft = with_batches(random);
-    draft.family = family;
+    let mut draft = with_batches(random, family);
     let record = any_record(random, &mut draft);
     breaking(random, record);
     draft
@@ -240,8 +203,7 @@ fn with_header_resized(random: &mut Random) -> TrayDraft {
 
 /// Two tray records, a length and a record, or both lengths.
 fn twice_broken(random: &mut Random) -> TrayDraft {
-    let mut draft = with_batches(random);
-    draft.family = "207 twice";
+    let mut draft = with_batches(random, "207 twice");
     let kinds = *random.pick(&[1, 1, 3, 5, 6, 7]);
     if kinds & 1 != 0 {
         break_record(random, &mut draft);
@@ -273,9 +235,8 @@ fn faulty_and_broken(random: &mut Random) -> TrayDraft {
 
 /// Bytes that are no tray, or trays of which nothing but the form is good.
 fn any_bytes(random: &mut Random) -> TrayDraft {
-    let mut draft = good(random);
+    let mut draft = good(random).unknown();
     draft.family = "random bytes";
-    draft.reading = None;
     if random.once_in(3) {
         draft.header.fill_with(|| random.byte());
     }
@@ -294,12 +255,24 @@ fn any_bytes(random: &mut Random) -> TrayDraft {
     draft
 }
 
-impl TrayCase {
-    /// What it leaves behind in the second program.
-    pub fn run(&self) -> Written {
-        let (_, session) = self.opening.open();
-        Written::by(&self.buffer, |lent| {
-            build(session.rules(), &self.header, &self.tray, lent)
-        })
+impl Input for Building {
+    fn run(&self, session: &Session, lent: &mut [u8]) -> Result<usize, Refusal> {
+        build(session.rules(), &self.header, &self.tray, lent)
+    }
+
+    fn needed(&self, _: &Rules) -> usize {
+        built_length(&self.tray)
+    }
+
+    fn output(&self, rules: &Rules) -> Vec<u8> {
+        built_of(rules, &self.header, &self.tray)
+    }
+
+    /// Spaces, when the built file was read and refused.
+    fn output_of_refusal(&self, refusal: Refusal) -> Vec<u8> {
+        match refusal.number {
+            201 | 206 | 207 => Vec::new(),
+            _ => vec![b' '; built_length(&self.tray)],
+        }
     }
 }

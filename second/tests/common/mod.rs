@@ -3,6 +3,7 @@
 // Each test file takes its part of these.
 #![allow(dead_code)]
 
+pub mod lending;
 pub mod trays;
 
 use second::{read, Currency, Refusal, Rules};
@@ -13,7 +14,7 @@ pub type Record = [u8; 94];
 pub fn record(texts: &[(usize, &str)]) -> Record {
     let mut record = [b' '; 94];
     for (from, text) in texts {
-        record[from - 1..from - 1 + text.len()].copy_from_slice(text.as_bytes());
+        put(&mut record, *from, text);
     }
     record
 }
@@ -82,6 +83,28 @@ pub fn file_control(sums: &str) -> Record {
     record(&[(1, "9"), (2, sums)])
 }
 
+const NO_SUMS: &str = "000000000001000000000000000000000000000000000000000000";
+
+/// Header and control only.
+pub fn empty_file(origin: &str) -> Vec<u8> {
+    [header(origin), file_control(NO_SUMS)].concat()
+}
+
+/// So many orders of one cent, numbered from 1.
+pub fn orders(sender: &str, destination: &str, count: usize) -> Vec<Record> {
+    let counters = (1..=count).map(|sequence| format!("{sender}{sequence:07}"));
+    counters
+        .map(|counter| individual("37", destination, "0000000001", "000", &counter))
+        .collect()
+}
+
+/// Case L with another text from this position of a record on.
+pub fn changed(place: usize, from: usize, text: &str) -> Vec<Record> {
+    let mut records = listing();
+    put(&mut records[place], from, text);
+    records
+}
+
 /// Case L of the listing.
 pub fn listing() -> Vec<Record> {
     vec![
@@ -114,7 +137,7 @@ pub fn refused(number: u16, place: usize) -> Result<usize, Refusal> {
     Err(Refusal { number, place })
 }
 
-pub fn put(record: &mut Record, from: usize, text: &str) {
+pub fn put(record: &mut [u8], from: usize, text: &str) {
     record[from - 1..from - 1 + text.len()].copy_from_slice(text.as_bytes());
 }
 
@@ -127,6 +150,16 @@ pub struct Single<'a> {
     pub destination: &'a str,
     pub amount: u64,
 }
+
+/// A rejection between two entities in dollars.
+pub const IN_DOLLARS: Single = Single {
+    origin: "05020001",
+    identifier: "A",
+    sender: "05020001",
+    code: "36",
+    destination: "09990001",
+    amount: 9_999_999_999,
+};
 
 impl Single<'_> {
     pub fn records(&self) -> Vec<Record> {

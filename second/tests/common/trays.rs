@@ -1,6 +1,7 @@
 //! Case L as a file and as its tray, and what is asked of building and stripping.
 
-use second::{build, strip, Currency, Refusal, Rules, Session};
+use super::lending;
+use second::{build, strip, Currency, Rules, Session};
 
 pub const FILE: [&str; 10] = [
     "101 999900010 0401000102506301230A094101CAMARA                 BANCO 401                      ",
@@ -45,9 +46,11 @@ pub fn put_text(line: &mut [u8], index: usize, text: &str) {
     line[index..index + text.len()].copy_from_slice(text.as_bytes());
 }
 
-/// Positions of the body, in a tray record.
-pub fn put_body(line: &mut [u8], from: usize, text: &str) {
-    put_text(line, from + 1, text);
+/// The tray with other bytes from this one of a record on.
+pub fn tray_with(place: usize, index: usize, bytes: &[u8]) -> Vec<u8> {
+    let mut tray = tray();
+    tray[place][index..index + bytes.len()].copy_from_slice(bytes);
+    tray.concat()
 }
 
 pub fn listed() -> Rules {
@@ -56,71 +59,26 @@ pub fn listed() -> Rules {
     session.rules().clone()
 }
 
-/// Bytes that no file and no tray holds, each unlike its neighbours.
-pub fn lent(length: usize) -> Vec<u8> {
-    (0..length).map(|index| 128 + (index % 127) as u8).collect()
-}
-
-pub fn shown(bytes: &[u8], length: usize) -> Vec<String> {
-    let lines = bytes.chunks(length);
-    lines
-        .map(|line| String::from_utf8_lossy(line).into_owned())
-        .collect()
-}
-
-/// The file in a buffer of its own length, of one byte more and of a thousand more.
 pub fn builds(rules: &Rules, header: &[u8], tray: &[u8], expected: &[u8]) {
-    for more in [0, 1, 1_000] {
-        let before = lent(expected.len() + more);
-        let mut out = before.clone();
-        assert_eq!(build(rules, header, tray, &mut out), Ok(expected.len()));
-        let (written, rest) = out.split_at(expected.len());
-        assert_eq!(shown(written, 94), shown(expected, 94));
-        assert_eq!(rest, &before[expected.len()..], "the rest stays");
-    }
+    lending::writes(expected, |out| build(rules, header, tray, out));
 }
 
 /// A refusal before the reading leaves the buffer as it was.
 pub fn stays(header: &[u8], tray: &[u8], room: usize, number: u16, place: usize) {
-    let before = lent(room);
-    let mut out = before.clone();
-    let answer = build(&listed(), header, tray, &mut out);
-    assert_eq!(answer, Err(Refusal { number, place }));
-    assert_eq!(out, before);
+    let job = |out: &mut [u8]| build(&listed(), header, tray, out);
+    lending::refuses(room, number, place, job);
 }
 
 /// A refusal by the reading leaves spaces where the file would have stood.
 pub fn blanks(rules: &Rules, header: &[u8], tray: &[u8], length: usize, number: u16, place: usize) {
-    for more in [0, 1, 1_000] {
-        let before = lent(length + more);
-        let mut out = before.clone();
-        let answer = build(rules, header, tray, &mut out);
-        assert_eq!(answer, Err(Refusal { number, place }));
-        let (blanked, rest) = out.split_at(length);
-        assert!(
-            blanked.iter().all(|&byte| byte == b' '),
-            "{}",
-            blanked.len()
-        );
-        assert_eq!(rest, &before[length..], "the rest stays");
-    }
+    let job = |out: &mut [u8]| build(rules, header, tray, out);
+    lending::blanks(length, number, place, job);
 }
 
 pub fn strips(rules: &Rules, file: &[u8], expected: &[u8]) {
-    for more in [0, 1, 1_000] {
-        let before = lent(expected.len() + more);
-        let mut out = before.clone();
-        assert_eq!(strip(rules, file, &mut out), Ok(expected.len()));
-        let (written, rest) = out.split_at(expected.len());
-        assert_eq!(shown(written, 96), shown(expected, 96));
-        assert_eq!(rest, &before[expected.len()..], "the rest stays");
-    }
+    lending::writes(expected, |out| strip(rules, file, out));
 }
 
 pub fn no_strip(rules: &Rules, file: &[u8], room: usize, number: u16, place: usize) {
-    let before = lent(room);
-    let mut out = before.clone();
-    let answer = strip(rules, file, &mut out);
-    assert_eq!(answer, Err(Refusal { number, place }));
-    assert_eq!(out, before);
+    lending::refuses(room, number, place, |out| strip(rules, file, out));
 }

@@ -19,18 +19,23 @@ loop-holds c = (omega arith, sym listed-none)
 
 array-write-roster : tie.Need-array-write-roster Inv-loop μ-loop
 array-write-roster c =
-    let l = c .before .before in
-    entity-at (l .before .args .entities .now) (l .loop .i) (l .before .pre) (c .before .loop-test .taken)
+    let turn : tie.In-loop Inv-loop μ-loop = search in
+    let head : tie.At-loop Inv-loop μ-loop = search in
+    let start : tie.Start Inv-loop μ-loop = search in
+    entity-at (start .args .entities .now) (head .loop .i) (start .pre) (turn .loop-test .taken)
 
 loop-again : tie.Need-loop-again Inv-loop μ-loop
 loop-again c =
-    let l = c .before .before in
-    mark-turn (l .before .args .entities .now) (l .loop .i) (l .loop .roster) (l .before .pre) (c .before .loop-test .taken) (l .loop .inv)
+    let turn : tie.In-loop Inv-loop μ-loop = search in
+    let head : tie.At-loop Inv-loop μ-loop = search in
+    let start : tie.Start Inv-loop μ-loop = search in
+    mark-turn (start .args .entities .now) (head .loop .i) (head .loop .roster) (start .pre) (turn .loop-test .taken) (head .loop .inv)
 
 returns : tie.Need-returns Inv-loop μ-loop
 returns c =
-    let l = c .before in
-    mark-end (l .before .args .entities .now) (l .loop .i) (l .loop .roster) (l .loop .inv) (c .loop-test .left)
+    let head : tie.At-loop Inv-loop μ-loop = search in
+    let start : tie.Start Inv-loop μ-loop = search in
+    mark-end (start .args .entities .now) (head .loop .i) (head .loop .roster) (head .loop .inv) (c .loop-test .left)
 
 pub marks-spec : {M : Type 1} → statement M
 marks-spec =

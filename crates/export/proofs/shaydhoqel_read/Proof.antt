@@ -8,18 +8,22 @@ use Rattle.export.proofs.shaydhoqel_read.Tie as tie
 
 returns : tie.Need-returns
 returns c =
-    let r = c .before .before .before .before in
+    let right : tie.After-records = search in
+    let read : tie.After-read = search in
+    let currency : tie.After-currency = search in
     c .speak .ensures
-    ∙ handed-accepted (r .read .result) _ _ (c .before .before .records .given .1) (r .read .ensures .1)
-    ∙ simp (r .read .ensures .0, r .before .currency .ensures)
+    ∙ handed-accepted (read .read .result) _ _ (right .records .given .1) (read .read .ensures .1)
+    ∙ simp (read .read .ensures .0, currency .currency .ensures)
 
 returns-2 : tie.Need-returns-2
 returns-2 c =
-    let r = c .before .before .before .before in
-    let records = length (r .before .before .before .args .file .now) / 94 in
+    let wrong : tie.After-fault = search in
+    let read : tie.After-read = search in
+    let currency : tie.After-currency = search in
+    let start : tie.Start = search in
     c .speak2 .ensures
-    ∙ handed-refused (r .read .result) _ _ records (c .before .before .fault .given .1)
-    ∙ simp (r .read .ensures .0, r .before .currency .ensures)
+    ∙ handed-refused (read .read .result) _ _ (length (start .args .file .now) / 94) (wrong .fault .given .1)
+    ∙ simp (read .read .ensures .0, currency .currency .ensures)
 
 pub shaydhoqel-read-spec : {M : Type 1} → statement M
 shaydhoqel-read-spec =

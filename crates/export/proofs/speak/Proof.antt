@@ -9,7 +9,7 @@ returns c = rw (c .enum-told .given .1)
 
 returns-2 : tie.Need-returns-2
 unfolding spokenOf
-returns-2 c = rw (c .before .before .answer .given .1, c .number .ensures)
+returns-2 c = let wrong : tie.After-answer = search in rw (wrong .answer .given .1, c .number .ensures)
 
 pub speak-spec : {M : Type 1} → statement M
 speak-spec = tie.close (tie.spec (λ c. search needs) (λ c. search needs) (λ c κs. search needs) returns returns-2)

@@ -12,7 +12,7 @@ inside : (c : tie.After-positions) → c .positions .result ≤ length (c .posit
 inside c = counted _ _ (c .positions .ensures)
 
 slice-aggregate-write-all : tie.Need-slice-aggregate-write-all
-slice-aggregate-write-all c = sym (length-take-le (c .before .positions .result) (c .before .positions .last .1 .0) (inside (c .before)))
+slice-aggregate-write-all c = sym (length-take-le _ _ (inside (search)))
 
 pub main-spec : {M : Type 1} → statement M
 main-spec =

@@ -4,7 +4,7 @@ use borrow.Author.Needs.{needs}
 use Rattle.paper.specs.declared.record.Before.{Before}
 use Rattle.paper.specs.Answers.{refused}
 use Rattle.paper.specs.Reading.{finish}
-use Rattle.record.proofs.Arms.{in-befores}
+use Rattle.field.proofs.Arms.{in-befores}
 use Rattle.reading.specs.Said.{readingSays, Carries}
 use Rattle.reading.proofs.finish.Statement.{statement}
 use Rattle.reading.proofs.finish.Tie as tie

@@ -14,16 +14,21 @@ abbrev μ-loop : tie.MeasureT-loop
 μ-loop file records size₀ place₀ size place = records - place
 
 loop-holds : tie.Need-loop-holds Inv-loop μ-loop
-loop-holds c = (omega arith, omega arith, ap length (sym (none-passed (c .before .args .file .now))))
+loop-holds c = let s : tie.Start Inv-loop μ-loop = search in (omega arith, omega arith, ap length (sym (none-passed (s .args .file .now))))
 
 loop-again : tie.Need-loop-again Inv-loop μ-loop
 loop-again c =
-    let l = c .before .before .before in
-    let n = one-longer (l .before .before .args .file .now) (l .loop .place) (omega arith) in
-    (omega arith, omega arith, omega (arith, n, rw (c .before .record-at .ensures .0) at (c .bytes .ensures .0)))
+    let read : tie.After-record-at Inv-loop μ-loop = search in
+    let l : tie.At-loop Inv-loop μ-loop = search in
+    let s : tie.Start Inv-loop μ-loop = search in
+    let n = one-longer (s .args .file .now) (l .loop .place) (omega arith) in
+    (omega arith, omega arith, omega (arith, n, rw (read .record-at .ensures .0) at (c .bytes .ensures .0)))
 
 returns : tie.Need-returns Inv-loop μ-loop
-returns c = let l = c .before in l .loop .inv .2 ∙ ap length (all-passed (l .before .before .args .file .now) (l .loop .place) (omega arith))
+returns c =
+    let l : tie.At-loop Inv-loop μ-loop = search in
+    let s : tie.Start Inv-loop μ-loop = search in
+    l .loop .inv .2 ∙ ap length (all-passed (s .args .file .now) (l .loop .place) (omega arith))
 
 pub size-spec : {M : Type 1} → statement M
 size-spec =

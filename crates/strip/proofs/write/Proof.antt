@@ -15,42 +15,46 @@ abbrev μ-loop : tie.MeasureT-loop
 μ-loop out₀ file records at₀ place₀ out at place = records - place
 
 loop-holds : tie.Need-loop-holds Inv-loop μ-loop
-loop-holds c = (omega arith, rw (none-passed (c .before .before .args .file .now)) (start (omega arith)))
+loop-holds c = let s : tie.Start Inv-loop μ-loop = search in (omega arith, rw (none-passed (s .args .file .now)) (start (omega arith)))
+
+inside : (l : tie.At-loop Inv-loop μ-loop) → l .loop .at ≤ length (l .loop .out)
+inside l = again (l .loop .inv .1) .inside
 
 marked-requires : tie.Need-marked-requires Inv-loop μ-loop
 marked-requires c κs =
-    let l = c .before .before .before in
-    let s = l .before .before .before in
-    let r = record-room (s .args .file .now) (l .loop .place) (l .loop .inv .1) (s .pre .1) (omega arith) in
-    (c .record-at .ensures .1, rw (c .record-at .ensures .0) (omega (arith, mid-len (l .loop .at) (length (l .loop .out)) (l .loop .out) (omega arith))))
+    let l : tie.At-loop Inv-loop μ-loop = search in
+    let s : tie.Start Inv-loop μ-loop = search in
+    let room = record-room _ _ (l .loop .inv .1) (s .pre .1) (omega arith) in
+    (c .record-at .ensures .1, rw (c .record-at .ensures .0) (omega (arith, room, mid-len (l .loop .at) (length (l .loop .out)) (l .loop .out) (omega arith))))
 
 add-at : tie.Need-add-at Inv-loop μ-loop
 add-at c =
-    let m = c .before .before in
-    let l = m .before .before .before .before in
-    let s = l .before .before .before in
-    let r = record-room (s .args .file .now) (l .loop .place) (l .loop .inv .1) (s .pre .1) (omega arith) in
-    let e = as-long (s .args .file .now) (l .loop .place) (l .loop .inv .1) (s .pre .1) in
-    omega (arith, r, e, rw (m .before .record-at .ensures .0) at (m .marked .ensures .0), l .before)
+    let put : tie.After-marked Inv-loop μ-loop = search in
+    let read : tie.After-record-at Inv-loop μ-loop = search in
+    let l : tie.At-loop Inv-loop μ-loop = search in
+    let s : tie.Start Inv-loop μ-loop = search in
+    let room = record-room _ _ (l .loop .inv .1) (s .pre .1) (omega arith) in
+    omega (arith, room, as-long _ _ (l .loop .inv .1) (s .pre .1), rw (read .record-at .ensures .0) at (put .marked .ensures .0), s .good)
 
 loop-again : tie.Need-loop-again Inv-loop μ-loop
 loop-again c =
-    let m = c .before .before in
-    let l = m .before .before .before .before in
-    let s = l .before .before .before in
-    (omega arith, record-put (s .args .file .now) (l .loop .place) (l .loop .inv .1) (s .pre .1) (omega arith) (rw (m .before .record-at .ensures .0) at (m .marked .ensures)))
+    let put : tie.After-marked Inv-loop μ-loop = search in
+    let read : tie.After-record-at Inv-loop μ-loop = search in
+    let l : tie.At-loop Inv-loop μ-loop = search in
+    let s : tie.Start Inv-loop μ-loop = search in
+    (omega arith, record-put _ _ (l .loop .inv .1) (s .pre .1) (omega arith) (rw (read .record-at .ensures .0) at (put .marked .ensures)))
 
 same-length : tie.Need-same-length Inv-loop μ-loop
 same-length c =
-    let l = c .before in
-    let s = l .before .before .before in
-    as-long (s .args .file .now) (l .loop .place) (l .loop .inv .1) (s .pre .1)
+    let l : tie.At-loop Inv-loop μ-loop = search in
+    let s : tie.Start Inv-loop μ-loop = search in
+    as-long _ _ (l .loop .inv .1) (s .pre .1)
 
 returns : tie.Need-returns Inv-loop μ-loop
 returns c =
-    let l = c .before in
-    let s = l .before .before .before in
-    whole-put (s .args .file .now) (l .loop .place) (l .loop .inv .1) (s .pre .1) (omega arith)
+    let l : tie.At-loop Inv-loop μ-loop = search in
+    let s : tie.Start Inv-loop μ-loop = search in
+    whole-put _ _ (l .loop .inv .1) (s .pre .1) (omega arith)
 
 pub write-spec : {M : Type 1} → statement M
 write-spec =
@@ -59,7 +63,7 @@ write-spec =
     Inv-loop
     μ-loop
     loop-holds
-    (λ c. again (c .before .loop .inv .1) .inside) (λ c. again (c .before .loop .inv .1) .inside) (λ c. search needs)
+    (λ c. inside (search)) (λ c. inside (search)) (λ c. search needs)
     (λ c κs. search needs)
     marked-requires
     add-at

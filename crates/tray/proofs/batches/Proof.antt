@@ -17,19 +17,23 @@ abbrev μ-loop : tie.MeasureT-loop
 μ-loop tray records count₀ place₀ count place = records - place
 
 add-count : tie.Need-add-count Inv-loop μ-loop
-add-count c = let l = c .before .before .before .before in omega (arith, l .loop .inv .1 .fewer)
+add-count c = let l : tie.At-loop Inv-loop μ-loop = search in omega (arith, l .loop .inv .1 .fewer)
 
 loop-again : tie.Need-loop-again Inv-loop μ-loop
 loop-again c =
-    let r = c .before .before in
-    let e = c .before .opens .ensures ∙ ap (λ b. opensBatch (kindOf b)) (r .body-at .ensures .0) in
-    let l = r .before .before .loop in
-    let n : c .if1 .count ≡ cond (c .before .opens .result) (l .count + 1) (l .count) =
+    let asked : tie.After-opens Inv-loop μ-loop = search in
+    let read : tie.After-body-at Inv-loop μ-loop = search in
+    let turn : tie.In-loop Inv-loop μ-loop = search in
+    let l : tie.At-loop Inv-loop μ-loop = search in
+    let e = asked .opens .ensures ∙ ap (λ b. opensBatch (kindOf b)) (read .body-at .ensures .0) in
+    let n : c .if1 .count ≡ cond (asked .opens .result) (l .loop .count + 1) (l .loop .count) =
     ⊎-elim (λ w. rw (w .0 .taken) (w .1)) (λ w. rw (w .0 .left) (w .1)) (c .if1 .came) in
-    (omega arith, one-counted _ (l .inv .1) (r .before .loop-test .taken) e n)
+    (omega arith, one-counted _ (l .loop .inv .1) (turn .loop-test .taken) e n)
 
 returns : tie.Need-returns Inv-loop μ-loop
-returns c = let i = c .before .loop .inv in (all-counted _ (i .1) (c .loop-test .left), omega (arith, i .0, i .1 .fewer))
+returns c =
+    let l : tie.At-loop Inv-loop μ-loop = search in
+    (all-counted _ (l .loop .inv .1) (c .loop-test .left), omega (arith, l .loop .inv .0, l .loop .inv .1 .fewer))
 
 pub batches-spec : {M : Type 1} → statement M
 batches-spec =

@@ -10,7 +10,8 @@ use Rattle.tray.proofs.body_at.Tie as tie
 returns : tie.Need-returns
 unfolding bodyAt
 returns c =
-    let r = c .before .record-at in
+    let read : tie.After-record-at = search in
+    let r = read .record-at in
     let e = body-behind (r .result .now) (r .ensures .1) in
     (e ∙ ap (drop 2) (r .ensures .0), ap length e ∙ body (r .result .now) (r .ensures .1))
 

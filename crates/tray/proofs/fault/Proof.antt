@@ -17,20 +17,24 @@ abbrev μ-loop : tie.MeasureT-loop
 
 returns : tie.Need-returns Inv-loop μ-loop
 returns c =
-    let r = c .before .before in
-    let l = r .before .before in
-    let bad = ap trayRecordGood (sym (r .record-at .ensures .0)) ∙ sym (c .before .good2 .ensures) ∙ not-true _ (c .if1 .taken) in
-    sym (l .loop .inv ∙ stops _ _ (r .before .loop-test .taken) bad)
+    let tested : tie.After-good2 Inv-loop μ-loop = search in
+    let read : tie.After-record-at Inv-loop μ-loop = search in
+    let turn : tie.In-loop Inv-loop μ-loop = search in
+    let l : tie.At-loop Inv-loop μ-loop = search in
+    let here = ap trayRecordGood (sym (read .record-at .ensures .0)) ∙ sym (tested .good2 .ensures) in
+    sym (l .loop .inv ∙ stops _ _ (turn .loop-test .taken) (here ∙ not-true _ (c .if1 .taken)))
 
 loop-again : tie.Need-loop-again Inv-loop μ-loop
 loop-again c =
-    let r = c .before .before in
-    let l = r .before .before in
-    let good = ap trayRecordGood (sym (r .record-at .ensures .0)) ∙ sym (c .before .good2 .ensures) ∙ not-false _ (c .if1 .left) in
-    l .loop .inv ∙ goes-on _ _ (r .before .loop-test .taken) good
+    let tested : tie.After-good2 Inv-loop μ-loop = search in
+    let read : tie.After-record-at Inv-loop μ-loop = search in
+    let turn : tie.In-loop Inv-loop μ-loop = search in
+    let l : tie.At-loop Inv-loop μ-loop = search in
+    let here = ap trayRecordGood (sym (read .record-at .ensures .0)) ∙ sym (tested .good2 .ensures) in
+    l .loop .inv ∙ goes-on _ _ (turn .loop-test .taken) (here ∙ not-false _ (c .if1 .left))
 
 returns-2 : tie.Need-returns-2 Inv-loop μ-loop
-returns-2 c = sym (c .before .loop .inv ∙ ends _ _ (c .loop-test .left))
+returns-2 c = let l : tie.At-loop Inv-loop μ-loop = search in sym (l .loop .inv ∙ ends _ _ (c .loop-test .left))
 
 pub fault-spec : {M : Type 1} → statement M
 fault-spec =

@@ -8,18 +8,19 @@ use Rattle.tray.proofs.good.Tie as tie
 returns : tie.Need-returns
 unfolding trayRecordGood
 returns c =
-    let m = c .before .before .before in
-    let s = m .before .before .before in
+    let marked : tie.Then1 = search in
+    let mark : tie.After-mark-good = search in
+    let s : tie.Start = search in
     let e = body-behind (s .args .rec .now) (s .pre) in
-    rw (sym (rw e at (m .mark-good .ensures)) ∙ c .before .before .if1 .taken) (rw e at (c .reads .ensures))
+    rw (sym (rw e at (mark .mark-good .ensures)) ∙ marked .if1 .taken) (rw e at (c .reads .ensures))
 
 returns-2 : tie.Need-returns-2
 unfolding trayRecordGood
 returns-2 c =
-    let m = c .before in
-    let s = m .before .before .before in
+    let mark : tie.After-mark-good = search in
+    let s : tie.Start = search in
     let e = body-behind (s .args .rec .now) (s .pre) in
-    rw (sym (rw e at (m .mark-good .ensures)) ∙ c .if1 .left) (c .if1 .left)
+    rw (sym (rw e at (mark .mark-good .ensures)) ∙ c .if1 .left) (c .if1 .left)
 
 pub good-spec : {M : Type 1} → statement M
 good-spec =

@@ -10,7 +10,8 @@ use Rattle.tray.proofs.record_at.Tie as tie
 returns : tie.Need-returns
 unfolding trayRecordAt
 returns c =
-    let at = c .before .args .place * 96 in
+    let s : tie.Start = search in
+    let at = s .args .place * 96 in
     let e : at + 96 - at ≡ 96 = omega arith in
     (rw e, simp (length-take, length-drop) (omega arith))
 

@@ -18,13 +18,15 @@ abbrev μ-loop : tie.MeasureT-loop
 
 loop-again : tie.Need-loop-again Inv-loop μ-loop
 loop-again c =
-    let l = c .before in
-    (omega arith, simp length-set (l .loop .inv .1), rw (l .loop .inv .2) (blank-turn (l .before .args .part .now) (l .loop .i) (omega arith)))
+    let l : tie.At-loop Inv-loop μ-loop = search in
+    let s : tie.Start Inv-loop μ-loop = search in
+    (omega arith, simp length-set (l .loop .inv .1), rw (l .loop .inv .2) (blank-turn (s .args .part .now) (l .loop .i) (omega arith)))
 
 returns : tie.Need-returns Inv-loop μ-loop
 returns c =
-    let l = c .before in
-    let p = l .before .args .part .now in
+    let l : tie.At-loop Inv-loop μ-loop = search in
+    let s : tie.Start Inv-loop μ-loop = search in
+    let p = s .args .part .now in
     l .loop .inv .2
     ∙ rw (take-all (l .loop .i) (blanks (length p)) (omega (arith, length-blanks (length p))), drop-of-length-le p {i = l .loop .i} (omega arith), append-nil)
 

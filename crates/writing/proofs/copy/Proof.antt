@@ -17,14 +17,14 @@ abbrev μ-loop : tie.MeasureT-loop
 
 loop-again : tie.Need-loop-again Inv-loop μ-loop
 loop-again c =
-    let l = c .before .before in
-    let s = l .before in
+    let l : tie.At-loop Inv-loop μ-loop = search in
+    let s : tie.Start Inv-loop μ-loop = search in
     (omega arith, simp length-set (l .loop .inv .1), rw (l .loop .inv .2) (copy-turn (s .args .part .now) (s .args .text .now) (l .loop .i) (omega arith) (omega arith)))
 
 returns : tie.Need-returns Inv-loop μ-loop
 returns c =
-    let l = c .before in
-    let s = l .before in
+    let l : tie.At-loop Inv-loop μ-loop = search in
+    let s : tie.Start Inv-loop μ-loop = search in
     l .loop .inv .2 ∙ rw (take-all (l .loop .i) (s .args .text .now) (omega arith), drop-of-length-le (s .args .part .now) {i = l .loop .i} (omega arith), append-nil)
 
 pub copy-spec : {M : Type 1} → statement M

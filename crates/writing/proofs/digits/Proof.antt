@@ -21,13 +21,13 @@ loop-holds c = (omega arith, refl, rw (drop-of-length-le (c .args .part .now) {i
 
 loop-again : tie.Need-loop-again Inv-loop μ-loop
 loop-again c =
-    let l = c .before in
+    let l : tie.At-loop Inv-loop μ-loop = search in
     (omega arith, simp length-set (l .loop .inv .1), l .loop .inv .2 ∙ digit-back (l .loop .i) (l .loop .rest) (l .loop .part) (omega arith) (omega arith))
 
 returns : tie.Need-returns Inv-loop μ-loop
 unfolding spelled
 returns c =
-    let l = c .before in
+    let l : tie.At-loop Inv-loop μ-loop = search in
     let e : l .loop .i ≡ 0 = omega arith in
     sym (l .loop .inv .2 ∙ rw e)
 

@@ -7,9 +7,10 @@ use Rattle.writing.proofs.field.Tie as tie
 
 returns : tie.Need-returns
 returns c =
-    let s = c .before .before .before .before .before in
+    let put : tie.After-digits = search in
+    let s : tie.Start = search in
     let a = s .args in
-    part-filled (λ w. spelled w (a .n)) (λ w. length-spelled w (a .n)) (a .at) (a .width) (c .before .before .digits .last .0) (a .out .now) (s .pre) (c .before .before .digits .ensures)
+    part-filled (λ w. spelled w (a .n)) (λ w. length-spelled w (a .n)) (a .at) (a .width) (put .digits .last .0) (a .out .now) (s .pre) (put .digits .ensures)
 
 pub field-spec : {M : Type 1} → statement M
 field-spec =

@@ -9,16 +9,17 @@ use Rattle.writing.proofs.number.Statement.{statement}
 use Rattle.writing.proofs.number.Tie as tie
 
 part-digits-end : tie.Need-part-digits-end
-part-digits-end c = omega (arith, length-decimal (c .before .before .args .n))
+part-digits-end c = let s : tie.Start = search in omega (arith, length-decimal (s .args .n))
 
 returns : tie.Need-returns
 unfolding decimal
 returns c =
-    let d = c .before .before .digits in
-    let w = c .before .before .before .before .width in
-    let s = c .before .before .before .before .before .before in
+    let put : tie.After-digits = search in
+    let measured : tie.After-width = search in
+    let s : tie.Start = search in
     let a = s .args in
-    rw (← w .ensures .0) (part-filled (λ w. spelled w (a .n)) (λ w. length-spelled w (a .n)) (a .at) (w .result) (d .last .0) (a .out .now) (omega (arith, length-decimal (a .n))) (d .ensures))
+    rw (← measured .width .ensures .0)
+    (part-filled (λ w. spelled w (a .n)) (λ w. length-spelled w (a .n)) (a .at) (measured .width .result) (put .digits .last .0) (a .out .now) (omega (arith, length-decimal (a .n))) (put .digits .ensures))
 
 pub number-spec : {M : Type 1} → statement M
 number-spec =

@@ -17,25 +17,27 @@ module _ (n : ℤ) (h : natAbs n ≤ 4 * 10 ^ 18) where
   back = rw (there n h) (toZ-ofZ {w = w64} minus)
 
 sub-opposite : tie.Need-sub-opposite
-sub-opposite c = rw (there (c .before .args .n) (c .before .pre)) (minus (c .before .args .n) (c .before .pre))
+sub-opposite c = let s : tie.Start = search in rw (there (s .args .n) (s .pre)) (minus (s .args .n) (s .pre))
 
 cast-result : tie.Need-cast-result
 cast-result c =
-    let n = c .before .args .n in
-    let h = c .before .pre in
+    let s : tie.Start = search in
+    let n = s .args .n in
+    let h = s .pre in
     rw (back n h) (up n (rw (there n h) at (c .if1 .taken)), record { fits = omega (arith, opposite n) })
 
 returns : tie.Need-returns
-returns c = rw (back (c .before .args .n) (c .before .pre)) (opposite (c .before .args .n))
+returns c = let s : tie.Start = search in rw (back (s .args .n) (s .pre)) (opposite (s .args .n))
 
 cast-result-2 : tie.Need-cast-result-2
 cast-result-2 c =
-    let n = c .before .args .n in
-    let h = c .before .pre in
+    let s : tie.Start = search in
+    let n = s .args .n in
+    let h = s .pre in
     rw (there n h) (not-down n (rw (there n h) at (c .if1 .left)), record { fits = omega arith })
 
 returns-2 : tie.Need-returns-2
-returns-2 c = ap natAbs (there (c .before .args .n) (c .before .pre))
+returns-2 c = let s : tie.Start = search in ap natAbs (there (s .args .n) (s .pre))
 
 pub size-spec : {M : Type 1} → statement M
 size-spec = tie.close (tie.spec sub-opposite cast-result returns cast-result-2 returns-2)

@@ -7,8 +7,9 @@ use Rattle.writing.proofs.spaces.Tie as tie
 
 returns : tie.Need-returns
 returns c =
-    let s = c .before .before .before .before .before in
-    part-filled blanks length-blanks (s .args .at) (s .args .width) (c .before .before .blanks .last .0) (s .args .out .now) (s .pre) (c .before .before .blanks .ensures)
+    let put : tie.After-blanks = search in
+    let s : tie.Start = search in
+    part-filled blanks length-blanks (s .args .at) (s .args .width) (put .blanks .last .0) (s .args .out .now) (s .pre) (put .blanks .ensures)
 
 pub spaces-spec : {M : Type 1} → statement M
 spaces-spec =

@@ -8,8 +8,10 @@ use Rattle.writing.proofs.text.Tie as tie
 
 returns : tie.Need-returns
 returns c =
-    let a = c .before .before .before .before .before .before .args in
-    (refl, rw (c .before .before .copy .ensures) (part-laid (a .at) (a .at + length (a .text .now)) (a .text .now) (a .out .now) refl))
+    let put : tie.After-copy = search in
+    let s : tie.Start = search in
+    let a = s .args in
+    (refl, rw (put .copy .ensures) (part-laid (a .at) (a .at + length (a .text .now)) (a .text .now) (a .out .now) refl))
 
 pub text-spec : {M : Type 1} → statement M
 text-spec =

@@ -17,10 +17,13 @@ unfolding width
 loop-holds c = search needs
 
 loop-again : tie.Need-loop-again Inv-loop μ-loop
-loop-again c = let l = c .before .loop in counted-turn (c .before .before .args .n) (l .count) (l .rest) (search needs) (l .inv)
+loop-again c =
+    let l : tie.At-loop Inv-loop μ-loop = search in
+    let s : tie.Start Inv-loop μ-loop = search in
+    counted-turn (s .args .n) (l .loop .count) (l .loop .rest) (search needs) (l .loop .inv)
 
 returns : tie.Need-returns Inv-loop μ-loop
-returns c = let l = c .before .loop in (omega (arith, width-end (20 - l .count) (l .rest) (search needs)), search needs)
+returns c = let l : tie.At-loop Inv-loop μ-loop = search in (omega (arith, width-end (20 - l .loop .count) (l .loop .rest) (search needs)), search needs)
 
 pub width-spec : {M : Type 1} → statement M
 width-spec = tie.close (tie.spec Inv-loop μ-loop loop-holds (λ c. search needs) (λ c. search needs) loop-again returns)

@@ -1,16 +1,11 @@
 //! Both buildings from the same trays, and both strippings of the files they give.
 
-use crate::measuring::{median, opening_of, timed};
+use crate::measuring::{median, opening_of, timed, FILES, RECORDS, ROUNDS, WARM_UP};
 use second::day::Opening;
 use second::generate::good::file_of;
 use second::generate::random::Random;
 use second::{build, proved, strip, Refusal};
 use std::hint::black_box;
-
-const FILES: u64 = 5;
-const RECORDS: usize = 10_000;
-const WARM_UP: usize = 20;
-const ROUNDS: usize = 200;
 
 /// A header body and a tray, the file that they give, and a session that takes it.
 struct Asked {

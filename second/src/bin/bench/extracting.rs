@@ -1,16 +1,11 @@
 //! Both extractings from the same files.
 
-use crate::measuring::{median, opening_of, timed};
+use crate::measuring::{median, opening_of, timed, FILES, RECORDS, ROUNDS, WARM_UP};
 use second::day::Opening;
-use second::generate::addressed::{shared_file, Addressed, Share};
+use second::generate::addressed::{shared_file, Addressed, Share, SEVERAL};
 use second::generate::random::Random;
 use second::{proved, Rules};
 use std::hint::black_box;
-
-const FILES: u64 = 5;
-const RECORDS: usize = 10_000;
-const WARM_UP: usize = 20;
-const ROUNDS: usize = 200;
 
 /// One file, and all that is asked of it.
 struct Asked {
@@ -48,7 +43,7 @@ pub fn run() {
 
 fn asked(number: u64, share: Share) -> Asked {
     let mut random = Random::new(RECORDS as u64, number);
-    let Addressed { draft, entity } = shared_file(&mut random, RECORDS, share);
+    let Addressed { draft, entity } = shared_file(&mut random, RECORDS, SEVERAL, share);
     let rules = draft.rules.clone();
     Asked {
         opening: opening_of(&rules),

@@ -5,6 +5,12 @@ use second::Rules;
 use std::hint::black_box;
 use std::time::Instant;
 
+/// Files of one kind, records of each where it is large, and rounds before and while they are measured.
+pub const FILES: u64 = 5;
+pub const RECORDS: usize = 10_000;
+pub const WARM_UP: usize = 20;
+pub const ROUNDS: usize = 200;
+
 /// Microseconds of work that must be accepted.
 pub fn timed(work: impl FnOnce() -> bool) -> f64 {
     let start = Instant::now();

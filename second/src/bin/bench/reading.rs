@@ -1,13 +1,10 @@
 //! Both readings of the same good files.
 
-use crate::measuring::{median, timed};
+use crate::measuring::{median, timed, FILES, RECORDS, ROUNDS, WARM_UP};
 use second::generate::good::file_of;
 use second::generate::random::Random;
 use second::{proved, read, Rules};
 use std::hint::black_box;
-
-const FILES: u64 = 5;
-const WARM_UP: usize = 20;
 
 struct Medians {
     proved: f64,
@@ -18,7 +15,7 @@ pub fn run() {
     println!("buffers are warm: each file is read {WARM_UP} times by both, then measured, before the next");
     println!("{FILES} files for each size, readings in turn, median of all rounds");
     let mut ratio = 0.0;
-    for (records, rounds) in [(100, 4_000), (1_000, 1_000), (10_000, 200)] {
+    for (records, rounds) in [(100, 4_000), (1_000, 1_000), (RECORDS, ROUNDS)] {
         let medians = measure(records, rounds);
         ratio = medians.proved / medians.second;
         println!(

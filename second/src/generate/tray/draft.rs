@@ -1,8 +1,8 @@
 //! A header body and a tray in the making.
 
 use crate::generate::built::stripped_of;
+use crate::generate::case::{accepted, refused, Answer, Case};
 use crate::generate::draft::Draft;
-use crate::generate::{Answer, Case};
 use crate::reading::RECORD;
 use crate::tray::TRAY_RECORD;
 use crate::Rules;
@@ -27,9 +27,13 @@ impl TrayDraft {
         TrayDraft::with(family, draft.rules.clone(), &draft.bytes(), reading)
     }
 
+    pub fn good(family: &'static str, draft: &Draft) -> Self {
+        TrayDraft::of(family, draft, accepted(draft))
+    }
+
     /// Whatever of a file can stand in a tray.
-    pub fn of_case(case: Case, reading: Answer) -> Self {
-        TrayDraft::with(case.family, case.rules, &case.file, reading)
+    pub fn of_case(case: Case) -> Self {
+        TrayDraft::with(case.family, case.rules, &case.file, case.expected)
     }
 
     fn with(family: &'static str, rules: Rules, file: &[u8], reading: Answer) -> Self {
@@ -43,13 +47,24 @@ impl TrayDraft {
         }
     }
 
-    pub fn bytes(&self) -> Vec<u8> {
-        let mut bytes = Vec::with_capacity(self.records.len() * TRAY_RECORD + self.surplus.len());
-        for record in &self.records {
-            bytes.extend_from_slice(record);
+    /// The same tray, of which nobody knows what the reading says.
+    pub fn unknown(self) -> Self {
+        TrayDraft {
+            reading: None,
+            ..self
         }
-        bytes.extend_from_slice(&self.surplus);
-        bytes
+    }
+
+    /// The same tray, refused by the reading where this record comes to stand.
+    pub fn refused_at(self, number: u16, place: usize) -> Self {
+        TrayDraft {
+            reading: refused(number, self.place_in_file(place)),
+            ..self
+        }
+    }
+
+    pub fn bytes(&self) -> Vec<u8> {
+        [self.records.as_flattened(), &self.surplus].concat()
     }
 
     /// The tray places of records with this mark.

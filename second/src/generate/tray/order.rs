@@ -1,8 +1,8 @@
 //! Trays of good records in an order that no file has.
 
 use super::draft::{TrayDraft, TrayRecord};
+use crate::generate::case::refused;
 use crate::generate::random::Random;
-use crate::generate::refused;
 
 /// Changes the order of a tray with at least one batch, and what the reading says of it.
 pub fn disorder(random: &mut Random, draft: &mut TrayDraft) {
@@ -24,9 +24,8 @@ pub fn disorder(random: &mut Random, draft: &mut TrayDraft) {
 
 /// Some record with this mark; the batch header's body stands in where there is none.
 fn some_record(random: &mut Random, draft: &TrayDraft, mark: &[u8; 2]) -> TrayRecord {
-    let places = draft.places(mark);
-    if !places.is_empty() {
-        return draft.records[*random.pick(&places)];
+    if let Some(place) = any_of(random, &draft.places(mark)) {
+        return draft.records[place];
     }
     let mut record = draft.records[0];
     let kind = if mark == b"AD" { b"705" } else { b"637" };
@@ -80,24 +79,20 @@ fn batch_header_at_the_end(random: &mut Random, draft: &mut TrayDraft) {
 }
 
 fn additional_twice(random: &mut Random, draft: &mut TrayDraft) {
-    let places = draft.places(b"AD");
-    if places.is_empty() {
+    let Some(place) = any_of(random, &draft.places(b"AD")) else {
         return;
-    }
+    };
     draft.family = "AD twice";
-    let place = *random.pick(&places);
     draft.records.insert(place, draft.records[place]);
     draft.reading = refused(25, draft.place_in_file(place + 1));
 }
 
 /// Whatever comes in its place is 25, also a control.
 fn additional_lost(random: &mut Random, draft: &mut TrayDraft) {
-    let places = draft.places(b"AD");
-    if places.is_empty() {
+    let Some(place) = any_of(random, &draft.places(b"AD")) else {
         return;
-    }
+    };
     draft.family = "AD lost";
-    let place = *random.pick(&places);
     draft.reading = refused(25, draft.place_in_file(place));
     draft.records.remove(place);
 }
@@ -106,14 +101,17 @@ fn additional_not_due(random: &mut Random, draft: &mut TrayDraft) {
     let mut places = draft.places(b"IN");
     // Position 79 says that none follows.
     places.retain(|&place| draft.records[place][80] == b'0');
-    if places.is_empty() {
+    let Some(place) = any_of(random, &places) else {
         return;
-    }
+    };
     draft.family = "AD not due";
-    let place = *random.pick(&places) + 1;
     let record = some_record(random, draft, b"AD");
-    draft.records.insert(place, record);
-    draft.reading = refused(25, draft.place_in_file(place));
+    draft.records.insert(place + 1, record);
+    draft.reading = refused(25, draft.place_in_file(place + 1));
+}
+
+fn any_of(random: &mut Random, places: &[usize]) -> Option<usize> {
+    (!places.is_empty()).then(|| *random.pick(places))
 }
 
 /// Nothing but individual records, or nothing but additionals.

@@ -2,9 +2,9 @@
 
 use super::draft::{empty_record, TrayDraft, TrayRecord};
 use super::form::{break_record, lengthen};
+use crate::generate::case::{refused, Answer};
 use crate::generate::good::{Amounts, Maker, MODEST};
 use crate::generate::random::Random;
-use crate::generate::refused;
 use crate::Currency;
 
 /// How many large trays a run surely holds; they come first.
@@ -93,7 +93,7 @@ fn one_batch(random: &mut Random, records: usize) -> TrayDraft {
     draft
 }
 
-fn accepted(records: usize) -> crate::generate::Answer {
+fn accepted(records: usize) -> Answer {
     if records > LIMIT {
         refused(201, 0)
     } else {

@@ -1,4 +1,3 @@
-use mathlib.Core.List.{[]}
 use mathlib.Core.Path.{_∙_}
 use borrow.Author.Needs.{needs}
 use native.Mathlib.Omega.{arith}
@@ -6,7 +5,7 @@ use Rattle.paper.specs.Fields.{bytes}
 use Rattle.paper.specs.Controls.{blocks}
 use Rattle.paper.specs.Writing.{spelled, blanks}
 use Rattle.batches.specs.Sums.{sumsOf}
-use Rattle.writing.proofs.Laying.{Wrote, start, on, filled}
+use Rattle.writing.proofs.Laying.{start, on, filled}
 use Rattle.batches.proofs.Controls.{total-parts}
 use Rattle.batches.proofs.records.file_control.Statement.{statement}
 use Rattle.batches.proofs.records.file_control.Tie as tie
@@ -30,16 +29,18 @@ spaces-requires c κs = omega arith
 returns : tie.Need-returns
 unfolding spelled blanks
 returns c =
-    let frees = c .before .before in
-    let totals = frees .before .before .before .before in
-    let counts = totals .before .before .before .before in
-    let tens = counts .before .before .before .before in
-    let batches = tens .before .before .before .before .before in
-    let classes = batches .before .before .before .before in
-    let a = classes .before .before .before .before .args in
-    let none : Wrote 0 [] (a .dst .now) (a .dst .now) 0 = start (omega (arith, classes)) in
-    let batch = on (on none (bytes "9") (classes .text .ensures)) (spelled 6 (a .batches)) (batches .field .ensures) in
-    let block = on batch (spelled 6 (blocks (a .all))) (rw (tens .before .blocks2 .ensures) at (tens .field2 .ensures)) in
+    let frees : tie.After-spaces = search in
+    let totals : tie.After-sums = search in
+    let counts : tie.After-field3 = search in
+    let tens : tie.After-field2 = search in
+    let ten : tie.After-blocks2 = search in
+    let numbers : tie.After-field = search in
+    let classes : tie.After-text = search in
+    let s : tie.Start = search in
+    let a = s .args in
+    let class = on (start (omega (arith, classes))) (bytes "9") (classes .text .ensures) in
+    let number = on class (spelled 6 (a .batches)) (numbers .field .ensures) in
+    let block = on number (spelled 6 (blocks (a .all))) (rw (ten .blocks2 .ensures) at (tens .field2 .ensures)) in
     let total = on (on block (spelled 8 (a .tally .records)) (counts .field3 .ensures)) (sumsOf (a .tally)) (totals .sums .ensures) in
     filled (on total (blanks 39) (frees .spaces .ensures)) (omega (arith, frees)) ∙ total-parts (a .all) (a .batches) (a .tally)
 

@@ -1,56 +1,56 @@
 use borrow.Author.Needs.{needs}
 use Rattle.paper.specs.Controls.{batchControl}
-use Rattle.record.proofs.Chain.{begun}
+use Rattle.verdicts.proofs.Chain.{begun}
 use Rattle.controls.proofs.batch_control.judge.Statement.{statement}
 use Rattle.controls.proofs.batch_control.judge.Tie as tie
 
+-- the start lies too far back to be found at once
+abbrev begins : (c : tie.After-same4) → tie.Start
+begins c = search
+
 spells-requires-3 : tie.Need-spells-requires-3
-spells-requires-3 c κs =
-    let half = c .before .before .before .before .before .before .before in
-    search (needs, half .before .before .before .before .before .before .before .before .pre .1)
+spells-requires-3 c κs = let start = begins (search) in search (needs, start .pre .1)
 
 spells-requires-4 : tie.Need-spells-requires-4
-spells-requires-4 c κs =
-    let half = c .before .before .before .before .before .before .before .before in
-    search (needs, half .before .before .before .before .before .before .before .before .before .pre .1)
+spells-requires-4 c κs = let start = begins (search) in search (needs, start .pre .1)
 
 returns : tie.Need-returns
 unfolding batchControl
 returns c =
-    let p1 = c .before in
-    let p2 = p1 .before in
-    let p3 = p2 .before in
-    let p4 = p3 .before in
-    let p5 = p4 .before in
-    let p6 = p5 .before in
-    let p7 = p6 .before in
-    let p8 = p7 .before in
-    let p9 = p8 .before in
-    let p10 = p9 .before in
-    let p11 = p10 .before in
-    let p12 = p11 .before in
-    let p13 = p12 .before in
-    let p14 = p13 .before in
-    let p15 = p14 .before in
-    let p16 = p15 .before in
+    let at-spells4 : tie.After-spells4 = search in
+    let at-need7 : tie.After-need7 = search in
+    let at-spells3 : tie.After-spells3 = search in
+    let at-need6 : tie.After-need6 = search in
+    let at-spells2 : tie.After-spells2 = search in
+    let at-last-ten : tie.After-last-ten = search in
+    let at-need5 : tie.After-need5 = search in
+    let at-spells : tie.After-spells = search in
+    let at-need4 : tie.After-need4 = search in
+    let at-same4 : tie.After-same4 = search in
+    let at-need3 : tie.After-need3 = search in
+    let at-same3 : tie.After-same3 = search in
+    let at-need2 : tie.After-need2 = search in
+    let at-same2 : tie.After-same2 = search in
+    let at-need : tie.After-need = search in
+    let at-same : tie.After-same = search in
     simp (
       c .need8 .ensures,
-      p1 .spells4 .ensures,
-      p2 .need7 .ensures,
-      p3 .spells3 .ensures,
-      p4 .need6 .ensures,
-      p5 .spells2 .ensures,
-      p6 .last-ten .ensures,
-      p7 .need5 .ensures,
-      p8 .spells .ensures,
-      p9 .need4 .ensures,
-      p10 .same4 .ensures,
-      p11 .need3 .ensures,
-      p12 .same3 .ensures,
-      p13 .need2 .ensures,
-      p14 .same2 .ensures,
-      p15 .need .ensures,
-      p16 .same .ensures,
+      at-spells4 .spells4 .ensures,
+      at-need7 .need7 .ensures,
+      at-spells3 .spells3 .ensures,
+      at-need6 .need6 .ensures,
+      at-spells2 .spells2 .ensures,
+      at-last-ten .last-ten .ensures,
+      at-need5 .need5 .ensures,
+      at-spells .spells .ensures,
+      at-need4 .need4 .ensures,
+      at-same4 .same4 .ensures,
+      at-need3 .need3 .ensures,
+      at-same3 .same3 .ensures,
+      at-need2 .need2 .ensures,
+      at-same2 .same2 .ensures,
+      at-need .need .ensures,
+      at-same .same .ensures,
       begun,
     )
 

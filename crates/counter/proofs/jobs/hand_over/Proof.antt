@@ -5,7 +5,10 @@ use Rattle.counter.proofs.jobs.hand_over.Statement.{statement}
 use Rattle.counter.proofs.jobs.hand_over.Tie as tie
 
 slice-aggregate-put : tie.Need-slice-aggregate-put
-slice-aggregate-put c = front _ _ (written _ (c .before .before .output .given .1) (c .before .before .before .before .before .pre))
+slice-aggregate-put c =
+    let accepted : tie.After-output = search in
+    let start : tie.Start = search in
+    front _ _ (written _ (accepted .output .given .1) (start .pre))
 
 pub hand-over-spec : {M : Type 1} → statement M
 hand-over-spec =

@@ -11,7 +11,9 @@ abbrev μ-loop : tie.MeasureT-loop
 μ-loop count after₀ word₀ after word = count - word
 
 loop-again : tie.Need-loop-again Inv-loop μ-loop
-loop-again c = c .before .before .before .present-one .ensures
+loop-again c =
+    let turn : tie.After-present-one Inv-loop μ-loop = search in
+    turn .present-one .ensures
 
 pub present-spec : {M : Type 1} → statement M
 present-spec =

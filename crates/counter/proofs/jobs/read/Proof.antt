@@ -4,10 +4,13 @@ use Rattle.counter.proofs.jobs.read.Statement.{statement}
 use Rattle.counter.proofs.jobs.read.Tie as tie
 
 inside : tie.Need-array-share-prefix-input
-inside c = in-file _ (c .before .taken .given .1) (c .before .before .before .before .file .ensures)
+inside c =
+    let bytes : tie.After-taken = search in
+    let filed : tie.After-file = search in
+    in-file _ (bytes .taken .given .1) (filed .file .ensures)
 
 slice-aggregate-read : tie.Need-slice-aggregate-read
-slice-aggregate-read c = front _ _ (inside (c .before))
+slice-aggregate-read c = front _ _ (inside (search))
 
 pub read-spec : {M : Type 1} → statement M
 read-spec =

@@ -1,43 +1,44 @@
-use mathlib.Core.Path.{sym, ap, _∙_}
+use mathlib.Core.Bool.{true, false, _&&_}
+use mathlib.Core.Path.{_≡_, sym, _∙_}
 use borrow.Author.Needs.{needs}
 use borrow.Author.Tests.{not-true, not-false}
-use Rattle.reading.specs.Said.{readingSays}
+use lib.ListN.{getD}
+use Rattle.paper.specs.Fields.{within}
 use Rattle.desk.specs.Standing.{rulesOf}
-use Rattle.desk.proofs.Asking.{listed-few, not-listed, not-read, was-read}
+use Rattle.desk.proofs.Asking.{accepts, listed-few, not-listed, not-read, was-read}
 use Rattle.desk.proofs.Session.extract.Statement.{statement}
 use Rattle.desk.proofs.Session.extract.Tie as tie
 
 returns : tie.Need-returns
-returns c = not-listed _ _ _ _ (sym (c .before .is-listed .ensures) ∙ not-true _ (c .if1 .taken))
+returns c = let asked : tie.After-is-listed = search in not-listed _ _ _ _ (sym (asked .is-listed .ensures) ∙ not-true _ (c .if1 .taken))
+
+-- the entity is on the roster
+listed : (c : tie.Else1) → let start : tie.Start = search in within 1 499 (start .args .entity) && getD (start .args .t1 .roster) (start .args .entity) false ≡ true
+listed c = let asked : tie.After-is-listed = search in sym (asked .is-listed .ensures) ∙ not-false _ (c .if1 .left)
 
 returns-2 : tie.Need-returns-2
-unfolding readingSays
 returns-2 c =
-    let r = c .before .before .before .before in
-    let t = r .before .before .before .before in
-    let listed = sym (t .before .is-listed .ensures) ∙ not-false _ (t .if1 .left) in
-    let h = rw (r .before .before .before .terms .ensures) at (r .read .ensures .0) in
-    let e = c .before .before .enum-told2 .given .1 in
-    c .unwritten .ensures _ ∙ rw (c .before .of-reading .ensures, e) (not-read _ _ _ _ listed (sym h ∙ ap readingSays e))
+    let wrong : tie.After-enum-told2 = search in
+    let read : tie.After-read = search in
+    not-read _ _ _ _ (listed (search)) (read .read .ensures) (wrong .enum-told2 .given .1) (c .unwritten .ensures _)
 
 extract-requires : tie.Need-extract-requires
-unfolding readingSays
 extract-requires c κs =
-    let r = c .before .before .before in
-    let t = r .before .before .before .before in
-    let s = t .before .before .before .before .before .before in
-    let listed = sym (t .before .is-listed .ensures) ∙ not-false _ (t .if1 .left) in
-    let h = rw (r .before .before .before .terms .ensures) at (r .read .ensures .0) in
-    (listed-few (s .args .t1 .roster) (s .args .entity) listed, record { rules = rulesOf (s .args .t1); accepts = sym h ∙ ap readingSays (c .before .enum-told .given .1) })
+    let right : tie.After-enum-told = search in
+    let read : tie.After-read = search in
+    let there : tie.Else1 = search in
+    let start : tie.Start = search in (
+      listed-few (start .args .t1 .roster) (start .args .entity) (listed there),
+      record { rules = rulesOf (start .args .t1); accepts = accepts _ _ (read .read .ensures) (right .enum-told .given .1) },
+    )
 
 returns-3 : tie.Need-returns-3
-unfolding readingSays
 returns-3 c =
-    let r = c .before .before .before .before .before .before in
-    let t = r .before .before .before .before in
-    let listed = sym (t .before .is-listed .ensures) ∙ not-false _ (t .if1 .left) in
-    let h = rw (r .before .before .before .terms .ensures) at (r .read .ensures .0) in
-    c .before .before .extract .ensures ∙ was-read _ _ _ _ listed (sym h ∙ ap readingSays (c .before .before .before .before .enum-told .given .1))
+    let extracted : tie.After-extract = search in
+    let right : tie.After-enum-told = search in
+    let read : tie.After-read = search in
+    let there : tie.Else1 = search in
+    was-read _ _ _ _ (listed there) (read .read .ensures) (right .enum-told .given .1) (extracted .extract .ensures)
 
 pub extract-spec : {M : Type 1} → statement M
 extract-spec =
@@ -45,7 +46,7 @@ extract-spec =
     (tie.spec
     (λ c κs. search needs)
     returns
-    (λ c κs. search needs) (λ c κs. search needs) (λ c. search needs) (λ c. search needs) (λ c κs. search needs) (λ c κs. search needs)
+    (λ c κs. search needs) (λ c. search needs) (λ c. search needs) (λ c κs. search needs)
     returns-2
     extract-requires
     (λ c. search needs)

@@ -4,7 +4,7 @@ use native.Mathlib.Omega.{arith}
 use borrow.Author.Needs.{needs}
 use lib.ListN.{length}
 use Rattle.paper.specs.Fields.{within}
-use Rattle.field.proofs.Scan.{Tested, test-turn, test-end}
+use Rattle.characters.proofs.Scan.{Tested, test-turn, test-end}
 use Rattle.desk.proofs.roster.all_entities.Statement.{statement}
 use Rattle.desk.proofs.roster.all_entities.Tie as tie
 
@@ -16,14 +16,17 @@ abbrev μ-loop : tie.MeasureT-loop
 
 loop-again : tie.Need-loop-again Inv-loop μ-loop
 loop-again c =
-    let l = c .before .before .before in
-    test-turn (within 1 499) (l .before .before .args .entities .now) (l .loop .good) (l .loop .i) (l .loop .inv)
-    (c .before .before .loop-test .taken) (c .is-entity .ensures)
+    let turn : tie.In-loop Inv-loop μ-loop = search in
+    let head : tie.At-loop Inv-loop μ-loop = search in
+    let start : tie.Start Inv-loop μ-loop = search in
+    test-turn (within 1 499) (start .args .entities .now) (head .loop .good) (head .loop .i) (head .loop .inv)
+    (turn .loop-test .taken) (c .is-entity .ensures)
 
 returns : tie.Need-returns Inv-loop μ-loop
 returns c =
-    let l = c .before in
-    test-end (within 1 499) (l .before .before .args .entities .now) (l .loop .good) (l .loop .i) (l .loop .inv) (c .loop-test .left)
+    let head : tie.At-loop Inv-loop μ-loop = search in
+    let start : tie.Start Inv-loop μ-loop = search in
+    test-end (within 1 499) (start .args .entities .now) (head .loop .good) (head .loop .i) (head .loop .inv) (c .loop-test .left)
 
 pub all-entities-spec : {M : Type 1} → statement M
 all-entities-spec =

@@ -1,24 +1,24 @@
 use borrow.Author.Needs.{needs}
 use Rattle.paper.specs.Records.{additional05}
-use Rattle.record.proofs.Chain.{begun}
+use Rattle.verdicts.proofs.Chain.{begun}
 use Rattle.entries.proofs.additional.judge05.Statement.{statement}
 use Rattle.entries.proofs.additional.judge05.Tie as tie
 
 returns : tie.Need-returns
 unfolding additional05
 returns c =
-    let p1 = c .before in
-    let p2 = p1 .before in
-    let p3 = p2 .before in
-    let p4 = p3 .before in
-    let p5 = p4 .before in
+    let at-same : tie.After-same = search in
+    let at-need2 : tie.After-need2 = search in
+    let at-digits : tie.After-digits = search in
+    let at-need : tie.After-need = search in
+    let at-reads : tie.After-reads = search in
     simp (
       c .need3 .ensures,
-      p1 .same .ensures,
-      p2 .need2 .ensures,
-      p3 .digits .ensures,
-      p4 .need .ensures,
-      p5 .reads .ensures,
+      at-same .same .ensures,
+      at-need2 .need2 .ensures,
+      at-digits .digits .ensures,
+      at-need .need .ensures,
+      at-reads .reads .ensures,
       begun,
     )
 

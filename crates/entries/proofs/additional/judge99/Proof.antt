@@ -1,39 +1,38 @@
 use borrow.Author.Needs.{needs}
 use Rattle.paper.specs.Records.{additional99}
-use Rattle.record.proofs.Chain.{begun}
+use Rattle.verdicts.proofs.Chain.{begun}
 use Rattle.entries.proofs.additional.judge99.Statement.{statement}
 use Rattle.entries.proofs.additional.judge99.Tie as tie
 
 returns : tie.Need-returns
 unfolding additional99
 returns c =
-    let p1 = c .before in
-    let p2 = p1 .before in
-    let p3 = p2 .before in
-    let p4 = p3 .before in
-    let p5 = p4 .before in
-    let p6 = p5 .before in
-    let p7 = p6 .before in
-    let p8 = p7 .before in
-    let p9 = p8 .before in
-    let p10 = p9 .before in
-    let p11 = p10 .before in
-    let p12 = p11 .before in
-    let p13 = p12 .before in
+    let at-same : tie.After-same = search in
+    let at-need5 : tie.After-need5 = search in
+    let at-digits3 : tie.After-digits3 = search in
+    let at-need4 : tie.After-need4 = search in
+    let at-blank : tie.After-blank = search in
+    let at-need3 : tie.After-need3 = search in
+    let at-digits2 : tie.After-digits2 = search in
+    let at-need2 : tie.After-need2 = search in
+    let at-need : tie.After-need = search in
+    let at-reads2 : tie.After-reads2 = search in
+    let at-digits : tie.After-digits = search in
+    let at-reads : tie.After-reads = search in
     simp (
       c .need6 .ensures,
-      p1 .same .ensures,
-      p2 .need5 .ensures,
-      p3 .digits3 .ensures,
-      p4 .need4 .ensures,
-      p5 .blank .ensures,
-      p6 .need3 .ensures,
-      p7 .digits2 .ensures,
-      p8 .need2 .ensures,
-      p9 .need .ensures,
-      p10 .reads2 .ensures,
-      p12 .digits .ensures,
-      p13 .reads .ensures,
+      at-same .same .ensures,
+      at-need5 .need5 .ensures,
+      at-digits3 .digits3 .ensures,
+      at-need4 .need4 .ensures,
+      at-blank .blank .ensures,
+      at-need3 .need3 .ensures,
+      at-digits2 .digits2 .ensures,
+      at-need2 .need2 .ensures,
+      at-need .need .ensures,
+      at-reads2 .reads2 .ensures,
+      at-digits .digits .ensures,
+      at-reads .reads .ensures,
       begun,
     )
 

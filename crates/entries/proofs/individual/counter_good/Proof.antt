@@ -6,13 +6,10 @@ use Rattle.entries.proofs.individual.counter_good.Tie as tie
 returns : tie.Need-returns
 unfolding counterGood
 returns c =
-    let p1 = c .before in
-    let p2 = p1 .before in
-    let p3 = p2 .before in
-    let p4 = p3 .before in
+    let at-same : tie.After-same = search in
     simp (
       c .number .ensures .0,
-      p1 .same .ensures,
+      at-same .same .ensures,
     )
 
 pub counter-good-spec : {M : Type 1} → statement M

@@ -6,20 +6,18 @@ use Rattle.entries.proofs.individual.flag_good.Tie as tie
 returns : tie.Need-returns
 unfolding flagGood
 returns c =
-    let p1 = c .before in
-    let p2 = p1 .before in
-    let p3 = p2 .before in
-    let p4 = p3 .before in
+    let at-is-order : tie.After-is-order = search in
+    let at-code : tie.After-code = search in
+    let at-flagged : tie.After-flagged = search in
     simp (
-      c .reads2 .ensures,
-      p2 .is-order .ensures,
-      p3 .code .ensures,
-      p4 .reads .ensures,
+      c .reads .ensures,
+      at-is-order .is-order .ensures,
+      at-code .code .ensures,
+      at-flagged .flagged .ensures,
     )
 
 pub flag-good-spec : {M : Type 1} → statement M
 flag-good-spec =
     tie.close
     (tie.spec
-    (λ c. search needs) (λ c κs. search needs) (λ c κs. search needs) (λ c κs. search needs) (λ c. search needs)
-    (λ c κs. search needs) returns)
+    (λ c κs. search needs) (λ c κs. search needs) (λ c κs. search needs) (λ c. search needs) (λ c κs. search needs) returns)

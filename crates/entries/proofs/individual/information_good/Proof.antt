@@ -6,15 +6,14 @@ use Rattle.entries.proofs.individual.information_good.Tie as tie
 returns : tie.Need-returns
 unfolding informationGood
 returns c =
-    let p1 = c .before in
-    let p2 = p1 .before in
-    let p3 = p2 .before in
-    let p4 = p3 .before in
+    let at-code : tie.After-code = search in
+    let at-reads2 : tie.After-reads2 = search in
+    let at-reads : tie.After-reads = search in
     simp (
       c .takes01 .ensures,
-      p1 .code .ensures,
-      p2 .reads2 .ensures,
-      p4 .reads .ensures,
+      at-code .code .ensures,
+      at-reads2 .reads2 .ensures,
+      at-reads .reads .ensures,
     )
 
 pub information-good-spec : {M : Type 1} → statement M

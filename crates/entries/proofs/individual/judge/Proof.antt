@@ -3,42 +3,47 @@ use Rattle.paper.specs.Records.{individual}
 use Rattle.entries.proofs.individual.judge.Statement.{statement}
 use Rattle.entries.proofs.individual.judge.Tie as tie
 
+-- the start lies far back, and must be found however many locals come between
+abbrev begins : (c : tie.After-transfer) → tie.Start
+begins c = search
+
+digits-requires : tie.Need-digits-requires
+digits-requires c κs = let start = begins (search) in search (needs, start .pre)
+
+counter-good-requires : tie.Need-counter-good-requires
+counter-good-requires c κs = let start = begins (search) in search (needs, start .pre)
+
 returns : tie.Need-returns
 unfolding individual
 returns c =
-    let p1 = c .before in
-    let p2 = p1 .before in
-    let p3 = p2 .before in
-    let p4 = p3 .before in
-    let p5 = p4 .before in
-    let p6 = p5 .before in
-    let p7 = p6 .before in
-    let p8 = p7 .before in
-    let p9 = p8 .before in
-    let p10 = p9 .before in
-    let p11 = p10 .before in
-    let p12 = p11 .before in
-    let p13 = p12 .before in
-    let p14 = p13 .before in
-    let p15 = p14 .before in
-    let p16 = p15 .before in
-    let p17 = p16 .before in
-    let p18 = p17 .before in
+    let at-counter-good : tie.After-counter-good = search in
+    let at-need5 : tie.After-need5 = search in
+    let at-digits : tie.After-digits = search in
+    let at-need4 : tie.After-need4 = search in
+    let at-flag-good : tie.After-flag-good = search in
+    let at-need3 : tie.After-need3 = search in
+    let at-need2 : tie.After-need2 = search in
+    let at-information-good : tie.After-information-good = search in
+    let at-need : tie.After-need = search in
+    let at-blank : tie.After-blank = search in
+    let at-transfer : tie.After-transfer = search in
+    let at-reads2 : tie.After-reads2 = search in
+    let at-reads : tie.After-reads = search in
     simp (
       c .need6 .ensures,
-      p1 .counter-good .ensures,
-      p2 .need5 .ensures,
-      p3 .digits .ensures,
-      p4 .need4 .ensures,
-      p5 .flag-good .ensures,
-      p6 .need3 .ensures,
-      p7 .need2 .ensures,
-      p8 .information-good .ensures,
-      p9 .need .ensures,
-      p10 .blank .ensures,
-      p11 .transfer .ensures,
-      p12 .reads2 .ensures,
-      p14 .reads .ensures,
+      at-counter-good .counter-good .ensures,
+      at-need5 .need5 .ensures,
+      at-digits .digits .ensures,
+      at-need4 .need4 .ensures,
+      at-flag-good .flag-good .ensures,
+      at-need3 .need3 .ensures,
+      at-need2 .need2 .ensures,
+      at-information-good .information-good .ensures,
+      at-need .need .ensures,
+      at-blank .blank .ensures,
+      at-transfer .transfer .ensures,
+      at-reads2 .reads2 .ensures,
+      at-reads .reads .ensures,
     )
 
 pub judge-spec : {M : Type 1} → statement M
@@ -47,5 +52,5 @@ judge-spec =
     (tie.spec
     (λ c. search needs) (λ c κs. search needs) (λ c. search needs) (λ c κs. search needs) (λ c κs. search needs)
     (λ c κs. search needs) (λ c κs. search needs) (λ c κs. search needs) (λ c κs. search needs) (λ c κs. search needs)
-    (λ c κs. search needs) (λ c κs. search needs) (λ c κs. search needs) (λ c κs. search needs) (λ c κs. search needs)
+    (λ c κs. search needs) (λ c κs. search needs) digits-requires (λ c κs. search needs) counter-good-requires
     (λ c κs. search needs) returns)

@@ -1,41 +1,40 @@
 use borrow.Author.Needs.{needs}
 use Rattle.paper.specs.Records.{transfer}
-use Rattle.record.proofs.Chain.{begun}
+use Rattle.verdicts.proofs.Chain.{begun}
 use Rattle.entries.proofs.individual.transfer.Statement.{statement}
 use Rattle.entries.proofs.individual.transfer.Tie as tie
 
 returns : tie.Need-returns
 unfolding transfer
 returns c =
-    let p1 = c .before in
-    let p2 = p1 .before in
-    let p3 = p2 .before in
-    let p4 = p3 .before in
-    let p5 = p4 .before in
-    let p6 = p5 .before in
-    let p7 = p6 .before in
-    let p8 = p7 .before in
-    let p9 = p8 .before in
-    let p10 = p9 .before in
-    let p11 = p10 .before in
-    let p12 = p11 .before in
-    let p13 = p12 .before in
-    let p14 = p13 .before in
+    let at-blank : tie.After-blank = search in
+    let at-need4 : tie.After-need4 = search in
+    let at-amount : tie.After-amount = search in
+    let at-digits : tie.After-digits = search in
+    let at-need3 : tie.After-need3 = search in
+    let at-account-good : tie.After-account-good = search in
+    let at-need2 : tie.After-need2 = search in
+    let at-reads : tie.After-reads = search in
+    let at-also : tie.After-also = search in
+    let at-member-field : tie.After-member-field = search in
+    let at-need : tie.After-need = search in
+    let at-known : tie.After-known = search in
+    let at-code : tie.After-code = search in
     simp (
       c .need5 .ensures,
-      p1 .blank .ensures,
-      p2 .need4 .ensures,
-      p3 .amount .ensures .0,
-      p4 .digits .ensures,
-      p5 .need3 .ensures,
-      p6 .account-good .ensures,
-      p7 .need2 .ensures,
-      p8 .reads .ensures,
-      p10 .also .ensures,
-      p11 .member-field .ensures,
-      p12 .need .ensures,
-      p13 .known .ensures,
-      p14 .code .ensures,
+      at-blank .blank .ensures,
+      at-need4 .need4 .ensures,
+      at-amount .amount .ensures .0,
+      at-digits .digits .ensures,
+      at-need3 .need3 .ensures,
+      at-account-good .account-good .ensures,
+      at-need2 .need2 .ensures,
+      at-reads .reads .ensures,
+      at-also .also .ensures,
+      at-member-field .member-field .ensures,
+      at-need .need .ensures,
+      at-known .known .ensures,
+      at-code .code .ensures,
       begun,
     )
 

@@ -5,8 +5,11 @@ use Rattle.export.proofs.day.between.Tie as tie
 
 returns : tie.Need-returns
 returns c =
-    let a = c .before .before .before .before .args in
-    rw (c .before .least2 .ensures, c .before .before .least .ensures) (part-within (a .from) (a .end) (a .files .now))
+    let from : tie.After-least2 = search in
+    let stop : tie.After-least = search in
+    let start : tie.Start = search in
+    let a = start .args in
+    rw (from .least2 .ensures, stop .least .ensures) (part-within (a .from) (a .end) (a .files .now))
 
 pub between-spec : {M : Type 1} → statement M
 between-spec =

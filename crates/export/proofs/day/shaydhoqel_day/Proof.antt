@@ -6,18 +6,26 @@ use Rattle.export.proofs.day.shaydhoqel_day.Tie as tie
 
 hand-figures-requires : tie.Need-hand-figures-requires
 hand-figures-requires c κs =
-    let cells = c .before in
-    let p = cells .before .before .before in
-    rw (cells .cells .ensures) (room (p .present-all .ensures .1))
+    let held : tie.After-cells = search in
+    let closed : tie.After-present-all = search in
+    rw (held .cells .ensures) (room (closed .present-all .ensures .1))
 
 returns : tie.Need-returns
 unfolding dayClosed turnsOf dayOf
 returns c =
-    let h = c .before .before in
-    let t = h .before .before in
-    let p = t .before .before .before in
-    let o = p .before .before .before in
-    rw (← o .before .currency .ensures, ← o .«open» .ensures .0, p .present-all .ensures .0, c .speak .ensures, h .hand-figures .ensures, t .cells .ensures)
+    let handed : tie.After-hand-figures = search in
+    let held : tie.After-cells = search in
+    let closed : tie.After-present-all = search in
+    let opened : tie.After-open = search in
+    let currency : tie.After-currency = search in
+    rw (
+      ← currency .currency .ensures,
+      ← opened .«open» .ensures .0,
+      closed .present-all .ensures .0,
+      c .speak .ensures,
+      handed .hand-figures .ensures,
+      held .cells .ensures,
+    )
 
 pub shaydhoqel-day-spec : {M : Type 1} → statement M
 shaydhoqel-day-spec =

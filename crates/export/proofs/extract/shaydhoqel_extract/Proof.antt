@@ -4,9 +4,10 @@ use Rattle.export.proofs.extract.shaydhoqel_extract.Tie as tie
 
 returns : tie.Need-returns
 returns c =
-    let e = c .before .before .before in
-    let o = e .before .before .before in
-    rw (← o .before .currency .ensures, ← o .«open» .ensures .0, ← e .extract .ensures) (c .speak-output .ensures _)
+    let extracted : tie.After-extract = search in
+    let opened : tie.After-open = search in
+    let currency : tie.After-currency = search in
+    rw (← currency .currency .ensures, ← opened .«open» .ensures .0, ← extracted .extract .ensures) (c .speak-output .ensures _)
 
 pub shaydhoqel-extract-spec : {M : Type 1} → statement M
 shaydhoqel-extract-spec =

@@ -4,9 +4,10 @@ use Rattle.export.proofs.tray.shaydhoqel_strip.Tie as tie
 
 returns : tie.Need-returns
 returns c =
-    let e = c .before .before .before in
-    let o = e .before .before .before in
-    rw (← o .before .currency .ensures, ← o .«open» .ensures .0, ← e .strip .ensures) (c .speak-output .ensures _)
+    let stripped : tie.After-strip = search in
+    let opened : tie.After-open = search in
+    let currency : tie.After-currency = search in
+    rw (← currency .currency .ensures, ← opened .«open» .ensures .0, ← stripped .strip .ensures) (c .speak-output .ensures _)
 
 pub shaydhoqel-strip-spec : {M : Type 1} → statement M
 shaydhoqel-strip-spec =

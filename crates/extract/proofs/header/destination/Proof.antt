@@ -1,11 +1,10 @@
 use Prim.Native.Nat.{_+_}
-use mathlib.Core.List.{[]}
 use borrow.Author.Needs.{needs}
 use native.Mathlib.Omega.{arith}
 use Rattle.paper.specs.Fields.{bytes}
 use Rattle.paper.specs.Entities.{currencyAdds}
 use Rattle.paper.specs.Writing.{spelled}
-use Rattle.writing.proofs.Laying.{Wrote, start, on}
+use Rattle.writing.proofs.Laying.{start, on}
 use Rattle.extract.proofs.header.destination.Statement.{statement}
 use Rattle.extract.proofs.header.destination.Tie as tie
 
@@ -15,12 +14,13 @@ text-requires-2 c κs = omega arith
 
 returns : tie.Need-returns
 returns c =
-    let zeros = c .before .before in
-    let numbers = zeros .before .before .before .before .before in
-    let blanks = numbers .before .before .before .before .before in
-    let a = blanks .before .before .before .before .args in
-    let none : Wrote (a .at) [] (a .dst .now) (a .dst .now) (a .at) = start (omega (arith, blanks)) in
-    let number = on (on none (bytes " ") (blanks .text .ensures)) (spelled 4 (a .entity + currencyAdds (a .currency))) (rw (numbers .before .adds .ensures .0) at (numbers .field .ensures)) in
+    let zeros : tie.After-text2 = search in
+    let numbers : tie.After-field = search in
+    let added : tie.After-adds = search in
+    let blanks : tie.After-text = search in
+    let s : tie.Start = search in
+    let blank = on (start (omega (arith, blanks))) (bytes " ") (blanks .text .ensures) in
+    let number = on blank (spelled 4 (s .args .entity + currencyAdds (s .args .currency))) (rw (added .adds .ensures .0) at (numbers .field .ensures)) in
     let all = on number (bytes "00000") (zeros .text2 .ensures) in
     (all .next, all .held)
 

@@ -2,7 +2,7 @@ use mathlib.Core.Path.{sym, ap, _∙_}
 use borrow.Author.Needs.{needs}
 use Rattle.paper.specs.Fields.{number}
 use Rattle.paper.specs.Entities.{entityValue}
-use Rattle.field.proofs.Part.{first-four}
+use Rattle.characters.proofs.Part.{first-four}
 use Rattle.field.proofs.entity.entity_value.Statement.{statement}
 use Rattle.field.proofs.entity.entity_value.Tie as tie
 

@@ -7,7 +7,7 @@ use borrow.Author.Tests.{ne-eqb}
 use Rattle.paper.specs.Kinds.{codeOf}
 use Rattle.paper.specs.declared.record.Code.the-variants.{Unknown}
 use Rattle.field.proofs.Numbers.{codeIn, code-number}
-use Rattle.field.proofs.Ranges.{Keys}
+use Rattle.characters.proofs.Ranges.{Keys}
 use Rattle.field.proofs.kind.code.Statement.{statement}
 use Rattle.field.proofs.kind.code.Tie as tie
 

@@ -6,7 +6,7 @@ use borrow.Author.Needs.{needs}
 use borrow.Author.Tests.{ne-eqb}
 use Rattle.paper.specs.Kinds.{kind, kindOf}
 use Rattle.paper.specs.declared.record.Kind.the-variants.{Other}
-use Rattle.field.proofs.Ranges.{Keys}
+use Rattle.characters.proofs.Ranges.{Keys}
 use Rattle.field.proofs.kind.kind.Statement.{statement}
 use Rattle.field.proofs.kind.kind.Tie as tie
 

@@ -1,8 +1,10 @@
-use Prim.Native.Nat.{_+_, _-_, _≤_}
-use mathlib.Core.Path.{_≡_}
+use Rattle.files.proofs.Parts.{taken}
+use native.Mathlib.Omega.{arith}
 use borrow.Author.Needs.{needs}
-use lib.ListN.{length}
 use Rattle.files.specs.Sources.{mostHanded}
+use lib.ListN.{length}
+use mathlib.Core.Path.{_≡_}
+use Prim.Native.Nat.{_+_, _-_, _≤_}
 use Rattle.files.proofs.taking.read_into.Statement.{statement}
 use Rattle.files.proofs.taking.read_into.Tie as tie
 
@@ -12,13 +14,29 @@ Inv-loop fd meter from path buf₀ done₀ buf done = (from + length buf ≤ mos
 abbrev μ-loop : tie.MeasureT-loop
 μ-loop fd meter from path buf₀ done₀ buf done = length buf - done
 
+add-done : tie.Need-add-done Inv-loop μ-loop
+add-done c =
+    let bytes : tie.After-taken Inv-loop μ-loop = search in
+    let read : tie.After-read-once Inv-loop μ-loop = search in
+    let few = taken _ (bytes .taken .given .1) (read .read-once .ensures) in
+    omega arith
+
+loop-again : tie.Need-loop-again Inv-loop μ-loop
+loop-again c =
+    let bytes : tie.After-taken Inv-loop μ-loop = search in
+    let read : tie.After-read-once Inv-loop μ-loop = search in
+    let few = taken _ (bytes .taken .given .1) (read .read-once .ensures) in
+    omega arith
+
 pub read-into-spec : {M : Type 1} → statement M
 read-into-spec =
     tie.close
     (tie.spec
     Inv-loop
     μ-loop
-    (λ c. search needs) (λ c. search needs) (λ c. search needs) (λ c. search needs) (λ c. search needs) (λ c κs. search needs)
+    (λ c. search needs) (λ c. search needs) (λ c. search needs) (λ c. search needs) (λ c. search needs)
     (λ c κs. search needs) (λ c. search needs) (λ c. search needs) (λ c. search needs) (λ c. search needs)
-    (λ c. search needs) (λ c κs. search needs) (λ c. search needs) (λ c. search needs) (λ c. search needs)
+    add-done
+    (λ c. search needs)
+    loop-again
     (λ c. search needs) (λ c. search needs) (λ c. search needs) (λ c. search needs))

@@ -1,44 +1,44 @@
 use borrow.Author.Needs.{needs}
 use Rattle.paper.specs.Records.{batchHeader}
-use Rattle.record.proofs.Chain.{begun}
+use Rattle.verdicts.proofs.Chain.{begun}
 use Rattle.headers.proofs.batch_header.judge.Statement.{statement}
 use Rattle.headers.proofs.batch_header.judge.Tie as tie
 
 returns : tie.Need-returns
 unfolding batchHeader
 returns c =
-    let p1 = c .before in
-    let p2 = p1 .before in
-    let p3 = p2 .before in
-    let p4 = p3 .before in
-    let p5 = p4 .before in
-    let p6 = p5 .before in
-    let p7 = p6 .before in
-    let p8 = p7 .before in
-    let p9 = p8 .before in
-    let p10 = p9 .before in
-    let p11 = p10 .before in
-    let p12 = p11 .before in
-    let p13 = p12 .before in
-    let p14 = p13 .before in
-    let p15 = p14 .before in
+    let at-digits4 : tie.After-digits4 = search in
+    let at-also : tie.After-also = search in
+    let at-member-field : tie.After-member-field = search in
+    let at-need6 : tie.After-need6 = search in
+    let at-digits3 : tie.After-digits3 = search in
+    let at-need5 : tie.After-need5 = search in
+    let at-date : tie.After-date = search in
+    let at-need4 : tie.After-need4 = search in
+    let at-blank2 : tie.After-blank2 = search in
+    let at-need3 : tie.After-need3 = search in
+    let at-digits2 : tie.After-digits2 = search in
+    let at-need2 : tie.After-need2 = search in
+    let at-blank : tie.After-blank = search in
+    let at-need : tie.After-need = search in
+    let at-digits : tie.After-digits = search in
     simp (
       c .need7 .ensures,
-      p1 .digits4 .ensures,
-      p2 .also .ensures,
-      p3 .member-field .ensures,
-      p4 .need6 .ensures,
-      p5 .digits3 .ensures,
-      p6 .need5 .ensures,
-      p7 .date .ensures,
-      p8 .need4 .ensures,
-      p9 .blank2 .ensures,
-      p10 .need3 .ensures,
-      p11 .digits2 .ensures,
-      p12 .need2 .ensures,
-      p13 .blank .ensures,
-      p14 .need .ensures,
-      p15 .digits .ensures,
+      at-digits4 .digits4 .ensures,
+      at-also .also .ensures,
+      at-member-field .member-field .ensures,
+      at-need6 .need6 .ensures,
+      at-digits3 .digits3 .ensures,
+      at-need5 .need5 .ensures,
+      at-date .date .ensures,
+      at-need4 .need4 .ensures,
+      at-blank2 .blank2 .ensures,
+      at-need3 .need3 .ensures,
+      at-digits2 .digits2 .ensures,
+      at-need2 .need2 .ensures,
+      at-blank .blank .ensures,
+      at-need .need .ensures,
+      at-digits .digits .ensures,
       begun,
     )
 

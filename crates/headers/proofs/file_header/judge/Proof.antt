@@ -1,79 +1,70 @@
 use borrow.Author.Needs.{needs}
 use Rattle.paper.specs.Records.{fileHeader}
-use Rattle.record.proofs.Chain.{begun}
+use Rattle.verdicts.proofs.Chain.{begun}
 use Rattle.headers.proofs.file_header.judge.Statement.{statement}
 use Rattle.headers.proofs.file_header.judge.Tie as tie
 
+-- the start lies too far back to be found at once
+abbrev begins : (c : tie.After-entity-field) → tie.Start
+begins c = search
+
 time-requires : tie.Need-time-requires
-time-requires c κs =
-    let half = c .before .before .before .before .before .before .before .before .before in
-    search (needs, half .before .before .before .before .before .before .before .before .before .before .pre)
+time-requires c κs = let start = begins (search) in search (needs, start .pre)
 
 identifier-requires : tie.Need-identifier-requires
-identifier-requires c κs =
-    let half = c .before .before .before .before .before .before .before .before .before .before in
-    search (needs, half .before .before .before .before .before .before .before .before .before .before .before .pre)
+identifier-requires c κs = let start = begins (search) in search (needs, start .pre)
 
 reads-requires-6 : tie.Need-reads-requires-6
-reads-requires-6 c κs =
-    let half = c .before .before .before .before .before .before .before .before .before .before .before .before in
-    search (needs, half .before .before .before .before .before .before .before .before .before .before .before .before .pre)
+reads-requires-6 c κs = let start = begins (search) in search (needs, start .pre)
 
 member-requires : tie.Need-member-requires
-member-requires c κs =
-    let half = c .before .before .before .before .before .before .before .before .before .before .before .before .before in
-    search (needs, half .before .before .before .before .before .before .before .before .before .before .before .before .before .pre)
+member-requires c κs = let start = begins (search) in search (needs, start .pre)
 
 returns : tie.Need-returns
 unfolding fileHeader
 returns c =
-    let p1 = c .before in
-    let p2 = p1 .before in
-    let p3 = p2 .before in
-    let p4 = p3 .before in
-    let p5 = p4 .before in
-    let p6 = p5 .before in
-    let p7 = p6 .before in
-    let p8 = p7 .before in
-    let p9 = p8 .before in
-    let p10 = p9 .before in
-    let p11 = p10 .before in
-    let p12 = p11 .before in
-    let p13 = p12 .before in
-    let p14 = p13 .before in
-    let p15 = p14 .before in
-    let p16 = p15 .before in
-    let p17 = p16 .before in
-    let p18 = p17 .before in
-    let p19 = p18 .before in
-    let p20 = p19 .before in
-    let p21 = p20 .before in
-    let p22 = p21 .before in
-    let p23 = p22 .before in
-    let p24 = p23 .before in
-    let p25 = p24 .before in
+    let at-member : tie.After-member = search in
+    let at-need7 : tie.After-need7 = search in
+    let at-reads6 : tie.After-reads6 = search in
+    let at-need6 : tie.After-need6 = search in
+    let at-identifier : tie.After-identifier = search in
+    let at-need5 : tie.After-need5 = search in
+    let at-time : tie.After-time = search in
+    let at-need4 : tie.After-need4 = search in
+    let at-need3 : tie.After-need3 = search in
+    let at-need2 : tie.After-need2 = search in
+    let at-need : tie.After-need = search in
+    let at-reads5 : tie.After-reads5 = search in
+    let at-spells : tie.After-spells = search in
+    let at-date : tie.After-date = search in
+    let at-reads4 : tie.After-reads4 = search in
+    let at-entity-field : tie.After-entity-field = search in
+    let at-reads3 : tie.After-reads3 = search in
+    let at-reads2 : tie.After-reads2 = search in
+    let at-digits : tie.After-digits = search in
+    let at-reads : tie.After-reads = search in
     simp (
       c .also .ensures,
-      p1 .member .ensures,
-      p2 .need7 .ensures,
-      p3 .reads6 .ensures,
-      p5 .need6 .ensures,
-      p6 .identifier .ensures,
-      p7 .need5 .ensures,
-      p8 .time .ensures,
-      p9 .need4 .ensures,
-      p10 .need3 .ensures,
-      p11 .need2 .ensures,
-      p12 .need .ensures,
-      p13 .reads5 .ensures,
-      p15 .spells .ensures,
-      p16 .date .ensures,
-      p17 .reads4 .ensures,
-      p19 .entity-field .ensures,
-      p20 .reads3 .ensures,
-      p22 .reads2 .ensures,
-      p24 .digits .ensures,
-      p25 .reads .ensures,
+      at-member .member .ensures,
+      at-need7 .need7 .ensures,
+      at-reads6 .reads6 .ensures,
+      at-need6 .need6 .ensures,
+      at-identifier .identifier .ensures,
+      at-need5 .need5 .ensures,
+      at-time .time .ensures,
+      at-need4 .need4 .ensures,
+      at-need3 .need3 .ensures,
+      at-need2 .need2 .ensures,
+      at-need .need .ensures,
+      at-reads5 .reads5 .ensures,
+      at-spells .spells .ensures,
+      at-date .date .ensures,
+      at-reads4 .reads4 .ensures,
+      at-entity-field .entity-field .ensures,
+      at-reads3 .reads3 .ensures,
+      at-reads2 .reads2 .ensures,
+      at-digits .digits .ensures,
+      at-reads .reads .ensures,
       begun,
     )
 

@@ -10,17 +10,17 @@ use Rattle.listing.proofs.answers.answer.Tie as tie
 returns : tie.Need-returns
 unfolding answerLine
 returns c =
-    let k = c .before .before .before in
-    let a = k .before .before .args in
-    at-start (a .out .now) (ap (λ (x : Answer). answerLine (said x)) (sym (k .enum-told .given .1))) (c .text .ensures)
+    let right : tie.After-enum-told = search in
+    let start : tie.Start = search in
+    at-start (start .args .out .now) (ap (λ (x : Answer). answerLine (said x)) (sym (right .enum-told .given .1))) (c .text .ensures)
 
 returns-2 : tie.Need-returns-2
 unfolding answerLine
 returns-2 c =
-    let k = c .before in
-    let f = k .before .before .before in
-    let a = f .before .before .args in
-    refusal-there _ (a .out .now) (k .number .ensures) (ap (λ (x : Answer). answerLine (said x)) (sym (f .answer .given .1))) (c .refusal .ensures)
+    let number : tie.After-number = search in
+    let wrong : tie.After-answer = search in
+    let start : tie.Start = search in
+    refusal-there _ (start .args .out .now) (number .number .ensures) (ap (λ (x : Answer). answerLine (said x)) (sym (wrong .answer .given .1))) (c .refusal .ensures)
 
 pub answer-spec : {M : Type 1} → statement M
 answer-spec =

@@ -8,7 +8,7 @@ use Rattle.paper.specs.Answers.{said}
 use Rattle.paper.specs.Buffers.{over}
 use Rattle.paper.specs.Fields.{bytes}
 use Rattle.paper.specs.Listing.{refusalLine}
-use Rattle.writing.proofs.Laying.{start, on, whole}
+use Rattle.writing.proofs.Laying.{start as begun, on, whole}
 use Rattle.listing.specs.Answers.{openingLine}
 use Rattle.listing.proofs.Printing.{retold}
 use Rattle.listing.proofs.answers.opening.Statement.{statement}
@@ -17,21 +17,21 @@ use Rattle.listing.proofs.answers.opening.Tie as tie
 returns : tie.Need-returns
 unfolding openingLine over
 returns c =
-    let a = c .before .before .args in
-    retold (a .out .now) (ap (λ (x : Answer). openingLine (said x)) (sym (c .enum-told .given .1))) (refl, refl)
+    let start : tie.Start = search in
+    retold (start .args .out .now) (ap (λ (x : Answer). openingLine (said x)) (sym (c .enum-told .given .1))) (refl, refl)
 
 returns-2 : tie.Need-returns-2
 unfolding openingLine
 returns-2 c =
-    let k = c .before in
-    let t = k .before .before in
-    let f = t .before .before .before .before in
-    let a = f .before .before .args in
-    let place = f .answer .given .0 .1 .0 in
-    let named = on (start (omega arith)) (bytes "OPENING ") (t .text .ensures) in
-    retold (a .out .now)
-    (ap (λ (n : ℕ). bytes "OPENING " ++ refusalLine n place) (k .number .ensures) ∙ ap (λ (x : Answer). openingLine (said x)) (sym (f .answer .given .1)))
-    (whole (on named (refusalLine (k .number .result) place) (c .refusal .ensures)))
+    let number : tie.After-number = search in
+    let word : tie.After-text = search in
+    let wrong : tie.After-answer = search in
+    let start : tie.Start = search in
+    let place = wrong .answer .given .0 .1 .0 in
+    let named = on (begun (omega arith)) (bytes "OPENING ") (word .text .ensures) in
+    retold (start .args .out .now)
+    (ap (λ (n : ℕ). bytes "OPENING " ++ refusalLine n place) (number .number .ensures) ∙ ap (λ (x : Answer). openingLine (said x)) (sym (wrong .answer .given .1)))
+    (whole (on named (refusalLine (number .number .result) place) (c .refusal .ensures)))
 
 pub opening-spec : {M : Type 1} → statement M
 opening-spec =

@@ -4,42 +4,45 @@ use native.Mathlib.Omega.{arith}
 use Rattle.paper.specs.Fields.{bytes}
 use Rattle.paper.specs.Listing.{decimal, signedDecimal, lineFeed}
 use Rattle.writing.proofs.Decimals.{signed-most}
-use Rattle.writing.proofs.Laying.{Wrote, start, on}
+use Rattle.writing.proofs.Laying.{Wrote, start as begun, on}
 use Rattle.writing.proofs.Signs.{there}
 use Rattle.listing.proofs.Parts.{counts-most, figures-parts}
 use Rattle.listing.proofs.lines.figures.Statement.{statement}
 use Rattle.listing.proofs.lines.figures.Tie as tie
 
 text-requires-2 : tie.Need-text-requires-2
-text-requires-2 c κs = let d = c .before .before .before .before .before .before .before .args .c in omega (arith, counts-most (d .sent) (d .received))
+text-requires-2 c κs = let start : tie.Start = search in omega (arith, counts-most (start .args .c .sent) (start .args .c .received))
 
 signed-requires : tie.Need-signed-requires
 signed-requires c κs =
-    let s = c .before .before .before .before .before .before .before .before .before .before in
-    let d = s .args .c in
+    let start : tie.Start = search in
+    let d = start .args .c in
     let m = signed-most 19 (d .position) (omega arith) (omega arith) in
-    rw (there (d .position) (s .pre .0)) (omega arith, omega (arith, counts-most (d .sent) (d .received)))
+    rw (there (d .position) (start .pre .0)) (omega arith, omega (arith, counts-most (d .sent) (d .received)))
 
 text-requires-3 : tie.Need-text-requires-3
 text-requires-3 c κs =
-    let s = c .before .before .before .before .before .before .before .before .before .before .before .before .before in
-    let d = s .args .c in
+    let net : tie.After-signed = search in
+    let counts : tie.After-counts = search in
+    let start : tie.Start = search in
+    let d = start .args .c in
     let m = signed-most 19 (d .position) (omega arith) (omega arith) in
-    let e = rw (there (d .position) (s .pre .0)) at (c .before .before .signed .ensures .0) in
+    let e = rw (there (d .position) (start .pre .0)) at (net .signed .ensures .0) in
     omega (arith, counts-most (d .sent) (d .received))
 
 returns : tie.Need-returns
 returns c =
-    let l = c .before .before .before in
-    let k = l .before .before .before in
-    let j = k .before .before .before in
-    let i = j .before .before in
-    let s = i .before .before .before in
-    let d = s .args .c in
-    let none : Wrote (s .args .at) [] (s .args .out .now) (s .args .out .now) (s .args .at) = start (omega (arith, i)) in
-    let both = on (on none (bytes " ") (i .text .ensures)) (decimal (d .sent) ++ bytes " " ++ decimal (d .received)) (j .counts .ensures) in
-    let net = on (on both (bytes " ") (k .text2 .ensures)) (signedDecimal (d .position)) (rw (there (d .position) (s .pre .0)) at (l .signed .ensures)) in
-    let line = rw (figures-parts d) at (on net lineFeed (c .text3 .ensures)) in
+    let net : tie.After-signed = search in
+    let apart : tie.After-text2 = search in
+    let counts : tie.After-counts = search in
+    let blank : tie.After-text = search in
+    let start : tie.Start = search in
+    let a = start .args in
+    let d = a .c in
+    let none : Wrote (a .at) [] (a .out .now) (a .out .now) (a .at) = begun (omega (arith, blank)) in
+    let counted = on (on none (bytes " ") (blank .text .ensures)) (decimal (d .sent) ++ bytes " " ++ decimal (d .received)) (counts .counts .ensures) in
+    let all = on (on counted (bytes " ") (apart .text2 .ensures)) (signedDecimal (d .position)) (rw (there (d .position) (start .pre .0)) at (net .signed .ensures)) in
+    let line = rw (figures-parts d) at (on all lineFeed (c .text3 .ensures)) in
     (line .next, line .held)
 
 pub figures-spec : {M : Type 1} → statement M

@@ -17,11 +17,12 @@ back p q f g = rw (toZ-ofZ {w = w64} f, toZ-ofZ {w = w64} g)
 plus-requires : tie.Need-plus-requires
 unfolding plusCell
 plus-requires c κs =
-    let s = c .before .before in
-    let p = s .args .c .position in
-    let q = s .args .d .position in
-    rw (back p q (record { sfits = c .before .struct-told .given .0 .1 }) (record { sfits = c .struct-told2 .given .0 .1 }))
-    (fits (p +ℤ q) (omega (arith, s .pre .position)))
+    let first : tie.After-struct-told = search in
+    let start : tie.Start = search in
+    let p = start .args .c .position in
+    let q = start .args .d .position in
+    rw (back p q (record { sfits = first .struct-told .given .0 .1 }) (record { sfits = c .struct-told2 .given .0 .1 }))
+    (fits (p +ℤ q) (omega (arith, start .pre .position)))
 
 add-t6 : tie.Need-add-t6
 unfolding plusCell
@@ -34,14 +35,16 @@ add-t7 c = search needs
 returns : tie.Need-returns
 unfolding plusCell
 returns c =
-    let m = c .before .before .before .before in
-    let s = m .before .before .before in
-    let p = s .args .c .position in
-    let q = s .args .d .position in
+    let sum : tie.After-plus = search in
+    let second : tie.After-struct-told2 = search in
+    let first : tie.After-struct-told = search in
+    let start : tie.Start = search in
+    let p = start .args .c .position in
+    let q = start .args .d .position in
     rw (
-      m .plus .ensures,
-      back p q (record { sfits = m .before .before .struct-told .given .0 .1 }) (record { sfits = m .before .struct-told2 .given .0 .1 }),
-      there (p +ℤ q) (omega (arith, s .pre .position)),
+      sum .plus .ensures,
+      back p q (record { sfits = first .struct-told .given .0 .1 }) (record { sfits = second .struct-told2 .given .0 .1 }),
+      there (p +ℤ q) (omega (arith, start .pre .position)),
     )
 
 pub plus-spec : {M : Type 1} → statement M

@@ -4,38 +4,36 @@ use native.Mathlib.Omega.{arith}
 use Rattle.paper.specs.Fields.{bytes}
 use Rattle.paper.specs.Listing.{decimal, lineFeed, refusalLine}
 use Rattle.writing.proofs.Decimals.{decimal-most}
-use Rattle.writing.proofs.Laying.{Wrote, start, on}
+use Rattle.writing.proofs.Laying.{Wrote, start as begun, on}
 use Rattle.listing.proofs.lines.refusal.Statement.{statement}
 use Rattle.listing.proofs.lines.refusal.Tie as tie
 
 number-requires : tie.Need-number-requires
-number-requires c κs = omega (arith, decimal-most (c .before .before .before .before .args .number))
+number-requires c κs = let start : tie.Start = search in omega (arith, decimal-most (start .args .number))
 
 text-requires-2 : tie.Need-text-requires-2
-text-requires-2 c κs = omega (arith, decimal-most (c .before .before .before .before .before .before .before .args .number))
+text-requires-2 c κs = let start : tie.Start = search in omega (arith, decimal-most (start .args .number))
 
 number-requires-2 : tie.Need-number-requires-2
-number-requires-2 c κs =
-    let a = c .before .before .before .before .before .before .before .before .before .args in
-    omega (arith, decimal-most (a .number), decimal-most (a .place))
+number-requires-2 c κs = let start : tie.Start = search in omega (arith, decimal-most (start .args .number), decimal-most (start .args .place))
 
 text-requires-3 : tie.Need-text-requires-3
-text-requires-3 c κs =
-    let a = c .before .before .before .before .before .before .before .before .before .before .before .before .args in
-    omega (arith, decimal-most (a .number), decimal-most (a .place))
+text-requires-3 c κs = let start : tie.Start = search in omega (arith, decimal-most (start .args .number), decimal-most (start .args .place))
 
 returns : tie.Need-returns
 unfolding refusalLine
 returns c =
-    let l = c .before .before .before in
-    let k = l .before .before in
-    let j = k .before .before .before in
-    let i = j .before .before in
-    let a = i .before .before .before .args in
-    let none : Wrote (a .at) [] (a .out .now) (a .out .now) (a .at) = start (omega (arith, i)) in
-    let named = on (on none (bytes "REFUSED ") (i .text .ensures)) (decimal (a .number)) (j .number .ensures) in
-    let placed = on (on named (bytes " AT ") (k .text2 .ensures)) (decimal (a .place)) (l .number2 .ensures) in
-    let line = on placed lineFeed (c .text3 .ensures) in
+    let end : tie.After-text3 = search in
+    let place : tie.After-number2 = search in
+    let between : tie.After-text2 = search in
+    let number : tie.After-number = search in
+    let word : tie.After-text = search in
+    let start : tie.Start = search in
+    let a = start .args in
+    let none : Wrote (a .at) [] (a .out .now) (a .out .now) (a .at) = begun (omega arith) in
+    let named = on (on none (bytes "REFUSED ") (word .text .ensures)) (decimal (a .number)) (number .number .ensures) in
+    let placed = on (on named (bytes " AT ") (between .text2 .ensures)) (decimal (a .place)) (place .number2 .ensures) in
+    let line = on placed lineFeed (end .text3 .ensures) in
     (line .next, line .held)
 
 pub refusal-spec : {M : Type 1} → statement M
@@ -49,4 +47,5 @@ refusal-spec =
     number-requires-2
     (λ c. search needs)
     text-requires-3
+    (λ c. search needs)
     returns)

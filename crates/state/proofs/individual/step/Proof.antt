@@ -1,49 +1,47 @@
 use mathlib.Core.Path.{refl, sym}
 use native.Mathlib.Omega.{arith}
 use borrow.Author.Needs.{needs}
-use Rattle.paper.specs.declared.record.Kind.the-variants.{Individual}
 use Rattle.paper.specs.Reading.{fields, beforeNext, lastIndividual, counted}
-use Rattle.record.specs.Verdicts.{checkOf}
-use Rattle.state.specs.States.{meant, stepSays, Kept, Held}
-use Rattle.state.proofs.Bounds.{below-individual}
+use Rattle.verdicts.specs.Verdicts.{checkOf}
+use Rattle.controls.proofs.Bounds.{below-individual}
+use Rattle.state.specs.States.{meant, Kept, Held}
 use Rattle.state.proofs.Steps.{goes-on, stops-at, standing-flagged, room-next, closed-stays}
 use Rattle.state.proofs.individual.step.Statement.{statement}
 use Rattle.state.proofs.individual.step.Tie as tie
 
 returns : tie.Need-returns
-unfolding checkOf meant stepSays Kept Held fields beforeNext lastIndividual counted
+unfolding checkOf meant Kept Held fields beforeNext lastIndividual counted
 returns c =
-    let j = c .before .before .before .before .before .before .before .before .before in
-    let r = j .before .before in
-    let a = r .before .before in (
-      goes-on _ _ _ _ Individual (a .pre .1 .0)
-          (simp (sym (r .record-at .ensures .0), sym (j .before .record-at2 .ensures .0), sym (j .judge .ensures), c .before .before .before .before .before .before .before .enum-told .given .1))
-          (simp (c .with-individual .ensures, c .before .number .ensures .0, c .before .before .flag .ensures, c .before .before .before .reads .ensures, r .record-at .ensures .0)),
-      (
-        room-next _ _ (omega (arith, a .pre .1 .1 .0 .batches))
-            (rw (c .with-individual .ensures) (below-individual _ _ (r .record-at .ensures .1) (a .pre .1 .1 .0 .batch)))
-            (closed-stays _ _ (a .pre .1 .1 .0)),
-        rw (c .before .before .flag .ensures) (standing-flagged _ _ _ (omega (arith, a .pre .1 .1 .1)) (omega arith)),
-      ),
-      (refl, refl),
+    let at-number : tie.After-number = search in
+    let at-flag : tie.After-flag = search in
+    let at-flagged : tie.After-flagged = search in
+    let told : tie.After-enum-told = search in
+    let verdict : tie.After-judge = search in
+    let header : tie.After-record-at2 = search in
+    let rec : tie.After-record-at = search in
+    let start : tie.Start = search in
+    goes-on _ (start .pre)
+    (simp (sym (rec .record-at .ensures .0), sym (header .record-at2 .ensures .0), sym (verdict .judge .ensures), told .enum-told .given .1))
+    (simp (c .with-individual .ensures, at-number .number .ensures .0, at-flag .flag .ensures, at-flagged .flagged .ensures, rec .record-at .ensures .0)) (
+      room-next _ _ (omega (arith, start .pre .room .batches)) (rw (c .with-individual .ensures) (below-individual _ _ (rec .record-at .ensures .1) (start .pre .room .batch))) (closed-stays _ _ (start .pre .room)),
+      rw (at-flag .flag .ensures) (standing-flagged _ _ _ (omega (arith, start .pre .stands)) (omega arith)),
     )
+    (refl, refl)
 
 returns-2 : tie.Need-returns-2
-unfolding checkOf meant stepSays Kept Held fields
+unfolding checkOf meant fields
 returns-2 c =
-    let j = c .before .before .before in
-    let r = j .before .before in
-    let a = r .before .before in (
-      stops-at _ _ _ _ Individual (a .pre .1 .0)
-          (simp (sym (r .record-at .ensures .0), sym (j .before .record-at2 .ensures .0), sym (j .judge .ensures), c .before .fault .given .1)),
-      tt,
-      tt,
-    )
+    let wrong : tie.After-fault = search in
+    let verdict : tie.After-judge = search in
+    let header : tie.After-record-at2 = search in
+    let rec : tie.After-record-at = search in
+    let start : tie.Start = search in
+    stops-at _ (start .pre) (simp (sym (rec .record-at .ensures .0), sym (header .record-at2 .ensures .0), sym (verdict .judge .ensures), wrong .fault .given .1))
 
 pub step-spec : {M : Type 1} → statement M
 step-spec =
     tie.close
     (tie.spec
-    (λ c κs. search needs) (λ c κs. search needs) (λ c κs. search needs) (λ c. search needs) (λ c. search needs)
+    (λ c κs. search needs) (λ c κs. search needs) (λ c κs. search needs) (λ c. search needs)
     (λ c κs. search needs) (λ c κs. search needs) (λ c κs. search needs) (λ c κs. search needs) (λ c. search needs)
     returns returns-2)

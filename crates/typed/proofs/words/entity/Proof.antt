@@ -17,15 +17,18 @@ abbrev μ-loop : tie.MeasureT-loop
 loop-again : tie.Need-loop-again Inv-loop μ-loop
 unfolding grownBy
 loop-again c =
-    let l = c .before .before .before in
-    pass-turn _ grownBy (λ n. refl) (λ n b bs. refl) (l .before .before .args .word .now) 0 (l .loop .n) (l .loop .i) (l .loop .inv)
-    (c .before .before .loop-test .taken) (c .grown .ensures .0)
+    let on : tie.In-loop Inv-loop μ-loop = search in
+    let turn : tie.At-loop Inv-loop μ-loop = search in
+    let start : tie.Start Inv-loop μ-loop = search in
+    pass-turn _ grownBy (λ n. refl) (λ n b bs. refl) (start .args .word .now) 0 (turn .loop .n) (turn .loop .i) (turn .loop .inv)
+    (on .loop-test .taken) (c .grown .ensures .0)
 
 returns : tie.Need-returns Inv-loop μ-loop
 unfolding grownBy entityTyped
 returns c =
-    let l = c .before in
-    pass-end _ grownBy (λ n. refl) (λ n b bs. refl) (l .before .before .args .word .now) 0 (l .loop .n) (l .loop .i) (l .loop .inv) (c .loop-test .left)
+    let turn : tie.At-loop Inv-loop μ-loop = search in
+    let start : tie.Start Inv-loop μ-loop = search in
+    pass-end _ grownBy (λ n. refl) (λ n b bs. refl) (start .args .word .now) 0 (turn .loop .n) (turn .loop .i) (turn .loop .inv) (c .loop-test .left)
 
 pub entity-spec : {M : Type 1} → statement M
 entity-spec =

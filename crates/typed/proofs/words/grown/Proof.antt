@@ -12,28 +12,38 @@ use Rattle.typed.proofs.words.grown.Statement.{statement}
 use Rattle.typed.proofs.words.grown.Tie as tie
 
 is-digit : (c : tie.Else1) → digit (c .before .before .args .b) ≡ true
-is-digit c = sym (c .before .digit .ensures) ∙ not-false (c .before .digit .result) (c .if1 .left)
+is-digit c =
+    let asked : tie.After-digit = search in
+    sym (asked .digit .ensures) ∙ not-false (asked .digit .result) (c .if1 .left)
 
 returns : tie.Need-returns
 unfolding grown
 returns c =
-    let s = c .before .before .args in
-    grown-bounded (s .n) (s .b) (rw (sym (c .before .digit .ensures) ∙ not-true (c .before .digit .result) (c .if1 .taken)))
+    let asked : tie.After-digit = search in
+    let start : tie.Start = search in
+    let s = start .args in
+    grown-bounded (s .n) (s .b) (rw (sym (asked .digit .ensures) ∙ not-true (asked .digit .result) (c .if1 .taken)))
 
 returns-2 : tie.Need-returns-2
 unfolding grown
 returns-2 c =
-    let s = c .before .before .before .args in
-    grown-bounded (s .n) (s .b) (rw (is-digit (c .before), lt-leb (s .n) 499 (c .if2 .taken)))
+    let as-digit : tie.Else1 = search in
+    let start : tie.Start = search in
+    let s = start .args in
+    grown-bounded (s .n) (s .b) (rw (is-digit (as-digit), lt-leb (s .n) 499 (c .if2 .taken)))
 
 sub-result : tie.Need-sub-result
-sub-result c = digit-range _ (T-of (is-digit (c .before))) .0
+sub-result c =
+    let as-digit : tie.Else1 = search in
+    digit-range _ (T-of (is-digit (as-digit))) .0
 
 returns-3 : tie.Need-returns-3
 unfolding grown
 returns-3 c =
-    let s = c .before .before .before .args in
-    grown-bounded (s .n) (s .b) (rw (is-digit (c .before), le-leb (s .n) 499 (c .if2 .left)) (omega arith))
+    let as-digit : tie.Else1 = search in
+    let start : tie.Start = search in
+    let s = start .args in
+    grown-bounded (s .n) (s .b) (rw (is-digit (as-digit), le-leb (s .n) 499 (c .if2 .left)) (omega arith))
 
 pub grown-spec : {M : Type 1} → statement M
 grown-spec =

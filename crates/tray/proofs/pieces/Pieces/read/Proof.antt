@@ -9,9 +9,11 @@ returns c = record { further = λ l. absurd (omega (arith, c .if1 .taken)); stay
 
 returns-2 : tie.Need-returns-2
 returns-2 c =
+    let found : tie.After-first-bad = search in
+    let few : tie.Else1 = search in
     record {
-      further = λ l. record { faults = c .before .first-bad .ensures; records = refl; left = refl };
-      stays = λ l. absurd (omega (arith, c .before .before .if1 .left));
+      further = λ l. record { faults = found .first-bad .ensures; records = refl; left = refl };
+      stays = λ l. absurd (omega (arith, few .if1 .left));
     }
 
 pub read-spec : {M : Type 1} → statement M

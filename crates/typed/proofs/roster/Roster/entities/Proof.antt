@@ -21,24 +21,29 @@ long c = search needs
 
 loop-again : tie.Need-loop-again Inv-loop μ-loop
 loop-again c =
-    let l = c .before .before .before in
-    let marks = l .before .before .args .t1 .listed in
-    let before = l .before .before .args .out .now in
-    let k = long (l .before) in
-    let m : l .loop .e < length marks = omega (arith, c .before .before .loop-test .taken) in
-    let r : l .loop .count < length before = omega (arith, c .before .before .loop-test .taken, l .loop .inv .0) in
+    let on : tie.In-loop Inv-loop μ-loop = search in
+    let turn : tie.At-loop Inv-loop μ-loop = search in
+    let lent : tie.After-places Inv-loop μ-loop = search in
+    let start : tie.Start Inv-loop μ-loop = search in
+    let marks = start .args .t1 .listed in
+    let before = start .args .out .now in
+    let k = long (lent) in
+    let m : turn .loop .e < length marks = omega (arith, on .loop-test .taken) in
+    let r : turn .loop .count < length before = omega (arith, on .loop-test .taken, turn .loop .inv .0) in
     ⊎-elim
-    (λ w. rw (w .1, w .2) (put-turn marks before (l .loop .places) (l .loop .count) (l .loop .e) (l .loop .inv) m (w .0 .taken) r))
-    (λ w. rw (w .1, w .2) (skip-turn marks before (l .loop .places) (l .loop .count) (l .loop .e) (l .loop .inv) m (w .0 .left)))
+    (λ w. rw (w .1, w .2) (put-turn marks before (turn .loop .places) (turn .loop .count) (turn .loop .e) (turn .loop .inv) m (w .0 .taken) r))
+    (λ w. rw (w .1, w .2) (skip-turn marks before (turn .loop .places) (turn .loop .count) (turn .loop .e) (turn .loop .inv) m (w .0 .left)))
     (c .if1 .came)
 
 returns : tie.Need-returns Inv-loop μ-loop
 unfolding entitiesIn
 returns c =
-    let l = c .before in
-    let s = l .before .before .args in
-    let k = long (l .before) in
-    put-end (s .t1 .listed) (s .out .now) (l .loop .places) (l .loop .count) (l .loop .e) (l .loop .inv) (omega (arith, c .loop-test .left))
+    let turn : tie.At-loop Inv-loop μ-loop = search in
+    let lent : tie.After-places Inv-loop μ-loop = search in
+    let start : tie.Start Inv-loop μ-loop = search in
+    let s = start .args in
+    let k = long (lent) in
+    put-end (s .t1 .listed) (s .out .now) (turn .loop .places) (turn .loop .count) (turn .loop .e) (turn .loop .inv) (omega (arith, c .loop-test .left))
 
 pub entities-spec : {M : Type 1} → statement M
 entities-spec =

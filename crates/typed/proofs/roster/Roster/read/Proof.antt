@@ -17,17 +17,20 @@ abbrev μ-loop : tie.MeasureT-loop
 loop-again : tie.Need-loop-again Inv-loop μ-loop
 unfolding readOn
 loop-again c =
-    let l = c .before .before .before in
-    let s = l .before .before .args in
-    pass-turn _ readOn (λ r. refl) (λ r b bs. refl) (s .piece .now) (s .self) (l .loop .roster) (l .loop .i) (l .loop .inv)
-    (c .before .before .loop-test .taken) (c .with .ensures)
+    let on : tie.In-loop Inv-loop μ-loop = search in
+    let turn : tie.At-loop Inv-loop μ-loop = search in
+    let start : tie.Start Inv-loop μ-loop = search in
+    let s = start .args in
+    pass-turn _ readOn (λ r. refl) (λ r b bs. refl) (s .piece .now) (s .self) (turn .loop .roster) (turn .loop .i) (turn .loop .inv)
+    (on .loop-test .taken) (c .with .ensures)
 
 returns : tie.Need-returns Inv-loop μ-loop
 unfolding readOn
 returns c =
-    let l = c .before in
-    let s = l .before .before .args in
-    pass-end _ readOn (λ r. refl) (λ r b bs. refl) (s .piece .now) (s .self) (l .loop .roster) (l .loop .i) (l .loop .inv) (c .loop-test .left)
+    let turn : tie.At-loop Inv-loop μ-loop = search in
+    let start : tie.Start Inv-loop μ-loop = search in
+    let s = start .args in
+    pass-end _ readOn (λ r. refl) (λ r b bs. refl) (s .piece .now) (s .self) (turn .loop .roster) (turn .loop .i) (turn .loop .inv) (c .loop-test .left)
 
 pub read-spec : {M : Type 1} → statement M
 read-spec =

@@ -6,13 +6,17 @@ use Rattle.typed.proofs.roster.Roster.with.Tie as tie
 
 returns : tie.Need-returns
 unfolding withIf
-returns c = rw (c .closed .ensures, sym (c .before .before .separator .ensures) ∙ c .before .if1 .taken)
+returns c =
+    let separates : tie.Then1 = search in
+    let asked : tie.After-separator = search in
+    rw (c .closed .ensures, sym (asked .separator .ensures) ∙ separates .if1 .taken)
 
 returns-2 : tie.Need-returns-2
 unfolding withIf
 returns-2 c =
-    let k = c .before .before in
-    rw (c .grown .ensures .0, sym (k .before .separator .ensures) ∙ k .if1 .left)
+    let goes-on : tie.Else1 = search in
+    let asked : tie.After-separator = search in
+    rw (c .grown .ensures .0, sym (asked .separator .ensures) ∙ goes-on .if1 .left)
 
 pub with-spec : {M : Type 1} → statement M
 with-spec =

@@ -1,0 +1,4 @@
+pub mod Ranges
+pub mod Part
+pub mod Scan
+pub mod Value

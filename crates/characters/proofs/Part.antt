@@ -1,0 +1,30 @@
+-- The part of a record that is lent is the field at the paper's positions.
+use Prim.Native.Nat.{ℕ, _+_, _-_, _<_}
+use mathlib.Core.List.{List, [], _∷_}
+use mathlib.Core.Path.{_≡_}
+use native.Mathlib.Omega.{arith}
+use lib.ListN.{length, take, drop, getD, length-take, length-drop}
+use lib.Seq.{take-take, drop-cons}
+use Rattle.paper.specs.Fields.{field}
+use Rattle.characters.specs.Part.{HasField}
+
+module _ (r : List ℕ) (first last : ℕ) (h : HasField r first last) where
+  pub part-is : take (last - (first - 1)) (drop (first - 1) r) ≡ field r first last
+  part-is = let e : last - (first - 1) ≡ last + 1 - first = omega arith in rw e
+
+  pub part-length : length (field r first last) ≡ last + 1 - first
+  part-length = simp (length-take, length-drop) (omega arith)
+
+-- a field of one position
+pub one-position : (r : List ℕ) (at : ℕ) → HasField r at at → field r at at ≡ getD r (at - 1) 0 ∷ []
+one-position r at h =
+    let e : at + 1 - at ≡ 1 = omega arith in
+    let k : at - 1 < length r = omega arith in
+    rw (e, drop-cons r (at - 1) 0 k)
+
+-- the first four positions of a field of eight
+pub first-four : (r : List ℕ) (first last : ℕ) → last ≡ first + 7 → field (field r first last) 1 4 ≡ field r first (first + 3)
+first-four r first last e =
+    let eight : last + 1 - first ≡ 8 = omega arith in
+    let four : first + 3 + 1 - first ≡ 4 = omega arith in
+    rw (eight, four) (take-take 4 8 (drop (first - 1) r) (omega arith))

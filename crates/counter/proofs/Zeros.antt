@@ -1,9 +1,0 @@
--- A buffer of zeros, of any length.
-use Prim.Native.Nat.{ℕ}
-use mathlib.Core.Path.{_≡_, refl, sym}
-use lib.ListN.{length, replicate, length-replicate}
-use Rattle.counter.specs.Zeros.{zeroBytes}
-
-pub made : (n : ℕ) → (n ≡ length (replicate {A = ℕ} n 0)) × (replicate n 0 ≡ zeroBytes n)
-unfolding zeroBytes
-made n = (sym (length-replicate {0} {A = ℕ} n 0), refl)

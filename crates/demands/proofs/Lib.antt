@@ -1,0 +1,16 @@
+pub mod Once
+pub mod Openings
+pub mod Cells
+pub mod Newness
+pub mod Lent
+pub mod TrayFaults
+pub mod RefusalPlaces
+pub mod Extracts
+pub mod Sharing
+pub mod Stripping
+pub mod Building
+pub mod RoundTrips
+pub mod Naming
+pub mod Sizes
+pub mod LongTrays
+pub mod Demands

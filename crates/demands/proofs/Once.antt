@@ -1,0 +1,41 @@
+-- One outcome only: what a call says fixes the answer, and of a reply its session field by field. (`Extracts`, `Building` and `Stripping` have the same of theirs.)
+use Prim.Native.Nat.{ℕ}
+use mathlib.Core.List.{List}
+use mathlib.Core.Path.{_≡_, sym, ap, _∙_, ap₂}
+use Rattle.paper.specs.declared.answer.Answer.{Answer}
+use Rattle.paper.specs.declared.ledger.Cell.{Cell}
+use Rattle.paper.specs.declared.rules.Currency.{Currency}
+use Rattle.paper.specs.Sessions as paper
+use Rattle.paper.proofs.Numbers.{said-once}
+use Rattle.desk.specs.declared.Session.{Session}
+use Rattle.desk.specs.declared.Reply.{Reply}
+use Rattle.desk.specs.Standing.{standing, heard}
+use Rattle.desk.specs.Calls.{Opens, Reads, Presents, Holds}
+
+pub session-once : (a b : Session) → standing a ≡ standing b → a ≡ b
+session-once a b h = λ i. record {
+  date = h i .rules .date;
+  currency = h i .rules .currency;
+  roster = h i .rules .roster;
+  cells = h i .cells;
+  used = h i .used;
+}
+
+pub reply-once : (a b : Reply) → heard a ≡ heard b → a ≡ b
+reply-once a b h =
+    ap₂ (λ (answer : Answer) (session : Session). record { answer = answer; session = session })
+    (said-once (a .answer) (b .answer) (ap (λ (r : paper.Reply). r .answer) h))
+    (session-once (a .session) (b .session) (ap (λ (r : paper.Reply). r .session) h))
+
+pub open-once : (date : ℕ) (currency : Currency) (entities : List ℕ) (r q : Reply) → Opens date currency entities r → Opens date currency entities q → r ≡ q
+open-once date currency entities r q h k = reply-once r q (h ∙ sym k)
+
+module _ (s : Session) where
+  pub read-once : (file : List ℕ) (a b : Answer) → Reads s file a → Reads s file b → a ≡ b
+  read-once file a b h k = said-once a b (h ∙ sym k)
+
+  pub present-once : (file : List ℕ) (r q : Reply) → Presents s file r → Presents s file q → r ≡ q
+  present-once file r q h k = reply-once r q (h ∙ sym k)
+
+  pub cell-once : (e : ℕ) (c d : Cell) → Holds s e c → Holds s e d → c ≡ d
+  cell-once e c d h k = h ∙ sym k

@@ -1,0 +1,107 @@
+-- Where a refusal stands, job by job: at 0 where its number is tied to no record, else at a record of the file, one past the last only where the 9 is
+-- missing; when building, 207 at 0 or at a record of the tray.
+use Prim.Native.Nat.{ℕ, _/_, _<_}
+use native.Mathlib.Omega.{arith}
+use mathlib.Core.Bool.{Bool, true, false, not, _&&_}
+use mathlib.Core.List.{List}
+use mathlib.Core.Logic.{_⊎_, inl, inr, ⊎-elim}
+use mathlib.Core.Path.{_≡_, refl, subst}
+use lib.Dec.{T, eqb, leb, eqb→eq}
+use lib.ListN.{length, getD}
+use Rattle.paper.specs.declared.rules.Currency.{Currency}
+use Rattle.paper.specs.Answers.{Said, accepted, refused, andThen, require}
+use Rattle.paper.specs.Fields.{among, within, every}
+use Rattle.paper.specs.Dates.{isDate}
+use Rattle.paper.specs.Reading.{lengthGood, reading}
+use Rattle.paper.specs.Extract.{extract}
+use Rattle.paper.specs.Trays.{build, strip}
+use Rattle.paper.specs.Buffers.{roomFor, entityGiven, trayAnswer, buildable}
+use Rattle.paper.specs.Sessions as paper
+use Rattle.paper.specs.Sessions.{opening, openingAnswer, keyOf, answerTo, presenting}
+use Rattle.paper.specs.Demands.{untied, StandsAt, StandsAtNought, BuildStandsIf, BuildStandsAt}
+use Rattle.paper.proofs.Tests.{T-of}
+use Rattle.paper.proofs.ReadingNumbers.{recordNumbers, reading-number}
+use Rattle.paper.proofs.Stands.{reading-stands, both-stand, required-stands}
+use Rattle.desk.specs.declared.Session.{Session}
+use Rattle.desk.specs.Standing.{rulesOf}
+use Rattle.demands.specs.Extracts.{answerFor}
+use Rattle.demands.specs.Trays.{TrayBad, answerToBuild, answerToStrip}
+use Rattle.demands.proofs.TrayFaults.{tray-named}
+
+required-at-nought : (b : Bool) (n : ℕ) → StandsAtNought (require b n 0)
+unfolding require
+required-at-nought true n = tt
+required-at-nought false n = refl
+
+pub opening-stands : (date : ℕ) (currency : Currency) (entities : List ℕ) → StandsAtNought (opening date currency entities .answer)
+unfolding opening openingAnswer
+opening-stands date currency entities =
+    both-stand StandsAtNought (require (isDate date) 75 0) (require (every (within 1 499) entities) 208 0) tt
+    (required-at-nought (isDate date) 75) (required-at-nought (every (within 1 499) entities) 208)
+
+module _ (file : List ℕ) where
+  pub presenting-stands : (s : paper.Session) → StandsAt file (presenting s file .answer)
+  unfolding presenting answerTo among
+  presenting-stands s =
+      both-stand (StandsAt file) (reading (s .rules) file) _ tt (reading-stands (s .rules) file) (required-stands file (not (getD (s .used) (keyOf file) false)) 209 refl)
+
+  -- the reading's refusals, then the room's
+  read-then-room : (s : Session) (new before : List ℕ) → StandsAt file (andThen (reading (rulesOf s) file) (roomFor new before))
+  unfolding roomFor among
+  read-then-room s new before =
+      both-stand (StandsAt file) (reading (rulesOf s) file) _ tt (reading-stands (rulesOf s) file) (required-stands file (leb (length new) (length before)) 206 refl)
+
+pub extracting-stands : (s : Session) (e : ℕ) (file before : List ℕ) → StandsAt file (answerFor s e file before)
+unfolding entityGiven among
+extracting-stands s e file before =
+    both-stand (StandsAt file) (entityGiven (rulesOf s) e) _ tt
+    (required-stands file (within 1 499 e && getD (s .roster) e false) 208 refl)
+    (read-then-room file s (extract (s .currency) e file) before)
+
+pub stripping-stands : (s : Session) (file before : List ℕ) → StandsAt file (answerToStrip s file before)
+stripping-stands s file before = read-then-room file s (strip file) before
+
+-- ---- building
+
+module _ (header tray : List ℕ) where
+  tray-stands : BuildStandsAt header tray (trayAnswer header tray)
+  tray-stands = go (trayAnswer header tray) refl
+    where
+      there : {place : ℕ} → TrayBad header tray place → (place ≡ 0) ⊎ (place < length tray / 96)
+      there (inl x) = inl (x .1)
+      there (inr x) = inr (x .there)
+
+      go : (a : Said) → trayAnswer header tray ≡ a → BuildStandsAt header tray a
+      go accepted e = tt
+      go (refused n place) e = let x = tray-named header tray e in rw (x .0) (there (x .1))
+
+  -- the file that would be built is read, and no record of a file is 207
+  read-stands : (s : Session) → BuildStandsAt header tray (reading (rulesOf s) (build header tray))
+  unfolding among
+  read-stands s = go (reading (rulesOf s) (build header tray)) refl
+    where
+      no-207 : {n : ℕ} → n ≡ 207 → {place : ℕ} → reading (rulesOf s) (build header tray) ≡ refused n place → ⊥
+      no-207 q h = ⊎-elim (λ x. omega (arith, x .1, q)) (λ t. subst (λ (m : ℕ). T (among recordNumbers m)) q t) (reading-number (rulesOf s) (build header tray) h)
+
+      there : (n place : ℕ) → reading (rulesOf s) (build header tray) ≡ refused n place → (b : Bool) → eqb n 207 ≡ b → BuildStandsIf b header tray n place
+      there n place h true e = absurd (no-207 (eqb→eq n 207 (T-of e)) h)
+      there n place h false e = subst (StandsAt (build header tray)) h (reading-stands (rulesOf s) (build header tray))
+
+      go : (a : Said) → reading (rulesOf s) (build header tray) ≡ a → BuildStandsAt header tray a
+      go accepted e = tt
+      go (refused n place) e = there n place e (eqb n 207) refl
+
+  pub building-stands : (s : Session) (before : List ℕ) → BuildStandsAt header tray (answerToBuild s header tray before)
+  unfolding buildable roomFor require among
+  building-stands s before =
+      let stands : Said → Type 0 = BuildStandsAt header tray in
+      both-stand stands (buildable header tray before) (reading (rulesOf s) (build header tray)) tt
+      (both-stand stands (trayAnswer header tray) _ tt tray-stands
+      (both-stand stands (require (lengthGood (length (build header tray))) 201 0) _ tt
+      (short (lengthGood (length (build header tray))) 201 refl refl)
+      (short (leb (length (build header tray)) (length before)) 206 refl refl)))
+      (read-stands s)
+    where
+      short : (b : Bool) (n : ℕ) → eqb n 207 ≡ false → among untied n ≡ true → BuildStandsAt header tray (require b n 0)
+      short true n e u = tt
+      short false n e u = rw (e, u) refl

@@ -1,3 +1,0 @@
-pub mod Arms
-pub mod Chain
-pub mod Once

@@ -1,0 +1,283 @@
+//! The one table of what a run must reach, and how often at the least: a run that hardly reaches some of this shows little.
+
+use super::counting::Rows::{self, *};
+use super::fields::{several, total, AMOUNT, BRANCH, DESTINATION, SENDER};
+use super::form::{bad_tail, bad_type, is_odd, keeps_letter, mixes_kinds, mixes_letters, stray_at, stray_byte};
+use super::job::Seen;
+use second::generate::day::DayCase;
+use second::generate::extract::ExtractCase;
+use second::generate::listing::ListingCase;
+use second::generate::strip::StripCase;
+use second::generate::tray::TrayCase;
+use second::generate::Case;
+use second::individual::Code;
+use second::Currency;
+
+const TEN_DIGITS: u64 = 9_999_999_999;
+const ELEVEN_DIGITS: u64 = 99_999_999_999;
+
+pub const FILES: &[Rows<Case>] = &[
+    Named(&[("files", 200_000)]),
+    OneIn("accepted", 10),
+    Named(&[
+        ("refused 201", 1_000), ("refused 17", 1_000), ("refused 19", 1_000),
+        ("refused 25", 1_000), ("refused 27", 1_000), ("refused 75", 1_000), ("refused 77", 1_000),
+        ("refused 78", 1_000), ("refused 79", 1_000), ("refused 87", 1_000),
+        ("refused 203", 1_000), ("refused 204", 1_000),
+    ]),
+    Largest("bytes of the largest file", |seen| seen.case.file.len() as u64),
+];
+
+pub const DAYS: &[Rows<DayCase>] = &[
+    Named(&[
+        ("days", 5_000), ("openings accepted", 3_000), ("openings refused by 75", 100), ("openings refused by 208", 100),
+        ("files accepted", 8_000), ("files refused by 209", 3_000), ("files refused by 75", 500),
+        ("files refused by 203", 300), ("files refused by 204", 1_000),
+        // Only said.
+        ("files refused by 201", 0), ("files refused by 17", 0), ("files refused by 19", 0), ("files refused by 25", 0),
+        ("files refused by 27", 0), ("files refused by 77", 0), ("files refused by 78", 0), ("files refused by 79", 0),
+        ("files refused by 87", 0),
+    ]),
+    Cases(|_| true, &[
+        ("openings with nobody listed", 100, |day| day.entities().is_empty()),
+        ("openings with an entity listed twice", 500, Seen::lists_twice),
+    ]),
+    Sums(&[
+        ("files accepted in pesos", 3_000, |day| day.accepted_in(Currency::Pesos)),
+        ("files accepted in dollars", 3_000, |day| day.accepted_in(Currency::Dollars)),
+        ("accepted after a refusal", 1_000, Seen::repaired),
+        ("origins of 36 identifiers", 90, Seen::origins_of_36),
+        ("batches not of the origin", 3_000, Seen::for_others),
+        ("records of 37 posted", 10_000, |day| day.posted_of(Code::Order)),
+        ("records of 36 posted", 3_000, |day| day.posted_of(Code::Rejection)),
+        ("records of 32 posted", 2_000, |day| day.posted_of(Code::Reversal)),
+        ("records of 31 posted", 2_000, |day| day.posted_of(Code::ReversalRejection)),
+        ("records sent to oneself", 3_000, Seen::sent_to_oneself),
+        ("negative positions", 3_000, Seen::negative),
+    ]),
+];
+
+pub const LISTINGS: &[Rows<ListingCase>] = &[
+    Named(&[("listings", 2_000)]),
+    Cases(|_| true, &[
+        ("listings refused", 500, Seen::is_refused),
+        ("inputs beyond 65424 bytes", 20, |seen| seen.input_length() > 65_424),
+    ]),
+    Cases(|seen| !seen.is_refused(), &[
+        ("listings in pesos", 300, |seen| !seen.is_in_dollars()),
+        ("listings in dollars", 300, Seen::is_in_dollars),
+        ("listings of 65424 bytes", 3, |seen| seen.input_length() == 65_424),
+        ("listings of 499 lines", 50, |seen| seen.lines() == 499),
+        ("listings of no line", 20, |seen| seen.lines() == 0),
+        ("listings with negative positions", 300, |seen| seen.answer.contains(&b'-')),
+    ]),
+];
+
+pub const EXTRACTS: &[Rows<ExtractCase>] = &[
+    Named(&[
+        ("extracts", 20_000), ("accepted", 5_000), ("accepted in pesos", 2_000), ("accepted in dollars", 2_000),
+        ("refused 201", 100), ("refused 17", 1_000), ("refused 19", 60), ("refused 25", 200), ("refused 27", 60),
+        ("refused 75", 100), ("refused 77", 50), ("refused 78", 50), ("refused 79", 50), ("refused 87", 50),
+        ("refused 203", 100), ("refused 204", 60), ("refused 206", 2_000), ("refused 208", 2_000),
+        ("206 with no byte lent", 200), ("206 with one byte lent", 200),
+        ("206 with one byte missing", 300), ("206 with one record missing", 200),
+        ("accepted into exactly its length", 2_000), ("accepted with one byte over", 500), ("accepted with much over", 100),
+    ]),
+    Cases(|seen| seen.refused(208), &[
+        ("208 for a number of nobody", 1_000, Seen::is_of_nobody),
+        ("208 for 0", 100, |seen| seen.entity() == 0),
+        ("208 for 500", 100, |seen| seen.entity() == 500),
+        ("208 beyond 32 bits", 100, |seen| seen.entity() > u64::from(u32::MAX)),
+        ("208 for one not on the roster", 300, |seen| !seen.is_of_nobody() && seen.opened()),
+        ("208 after a refused opening", 300, |seen| !seen.is_of_nobody() && !seen.opened()),
+        ("208 and a refused file", 500, Seen::would_be_refused),
+        ("208 and too small a buffer", 500, Seen::is_short),
+    ]),
+    Cases(Seen::refused_by_reading, &[("a refused file and too small a buffer", 1_000, Seen::is_short)]),
+    Cases(Seen::accepted, &[
+        ("nothing for the entity", 500, |seen| seen.held().is_empty()),
+        ("header and control only", 100, |seen| seen.case.input.file.len() == 188),
+        ("every batch of several", 500, |seen| seen.batches() > 1 && seen.held().len() == seen.batches()),
+        ("some batches of several", 500, |seen| seen.held().len() > 1 && seen.held().len() < seen.batches()),
+        ("one batch of several", 500, |seen| seen.batches() > 1 && seen.held().len() == 1),
+        ("at several branches", 500, |seen| several(&seen.handed(), BRANCH)),
+        ("from several senders", 500, |seen| several(&seen.headers(), SENDER)),
+        ("from the entity itself", 500, |seen| seen.headers().iter().any(|header| header[79..83] == seen.digits())),
+        ("the entity is the origin", 500, |seen| seen.header()[14..18] == seen.digits()),
+        ("names that differ", 1_000, |seen| seen.header()[40..63] != seen.header()[63..86]),
+        ("for entity 1 or 499", 500, |seen| matches!(seen.entity(), 1 | 499)),
+        // Few, since the files are large.
+        ("totals beyond ten digits", 30, |seen| total(&seen.handed(), DESTINATION) > TEN_DIGITS),
+        ("batch totals beyond ten digits", 10, |seen| seen.largest_batch_total() > TEN_DIGITS),
+        ("sums of twelve digits", 50, |seen| seen.largest_sum() > ELEVEN_DIGITS),
+        ("from 10000 records", 10, Seen::is_full),
+        ("more than 1000 batches", 2, |seen| seen.held().len() > 1_000),
+    ]),
+    Records(Seen::handed, &[
+        ("37 handed over", 5_000, |record| record.starts_with(b"637")),
+        ("36 handed over", 2_000, |record| record.starts_with(b"636")),
+        ("32 handed over", 1_000, |record| record.starts_with(b"632")),
+        ("31 handed over", 1_000, |record| record.starts_with(b"631")),
+        ("with 01", 2_000, |record| &record[76..78] == b"01"),
+        ("37 with additional", 2_000, |record| record.starts_with(b"637") && record[78] == b'1'),
+        ("37 without additional", 3_000, |record| record[78] == b'0'),
+    ]),
+    Records(Seen::controls, &[("controls with free positions filled", 2_000, |control| control[54..79] != [b' '; 25])]),
+    Sums(&[
+        ("batches numbered anew", 3_000, Seen::numbered_anew),
+        ("made for everybody on the roster", 10_000, Seen::made_for),
+    ]),
+];
+
+pub const TRAYS: &[Rows<TrayCase>] = &[
+    Named(&[
+        ("trays", 20_000), ("accepted", 2_000), ("accepted in pesos", 900), ("accepted in dollars", 1_000),
+        ("accepted into exactly its length", 1_000), ("accepted with one byte over", 300), ("accepted with much over", 100),
+        ("accepted 10000 records", 2),
+        ("refused 207", 3_000), ("refused 201", 100), ("refused 206", 3_000), ("refused 17", 1_000), ("refused 19", 80),
+        ("refused 25", 200), ("refused 27", 60), ("refused 75", 400), ("refused 77", 60), ("refused 78", 80),
+        ("refused 79", 50), ("refused 87", 50), ("refused 203", 100), ("refused 204", 200),
+        ("spaces into exactly the length", 1_000), ("spaces with one byte over", 400), ("spaces with much over", 200),
+        ("spaces for 10000 records", 5), ("spaces after a refused opening", 200),
+        ("206 with no byte lent", 300), ("206 with 93 bytes lent", 300), ("206 with one byte missing", 700),
+        ("206 with one record missing", 300), ("206 for 10000 records", 1),
+    ]),
+    Cases(Seen::accepted, &[
+        ("accepted empty tray", 100, |seen| seen.case.input.tray.is_empty()),
+        ("several batches", 1_000, |seen| seen.batches() > 1),
+        ("totals beyond ten digits", 30, |seen| total(&seen.individuals(), DESTINATION) > TEN_DIGITS),
+        ("sums of twelve digits", 100, |seen| total(&seen.individuals(), AMOUNT) > ELEVEN_DIGITS),
+    ]),
+    Records(Seen::accepted_bodies, &[
+        ("code 37", 100_000, |body| body.starts_with(b"637")),
+        ("code 36", 10_000, |body| body.starts_with(b"636")),
+        ("code 32", 10_000, |body| body.starts_with(b"632")),
+        ("code 31", 9_000, |body| body.starts_with(b"631")),
+        ("additional 05", 20_000, |body| body.starts_with(b"705")),
+        ("additional 99", 20_000, |body| body.starts_with(b"799")),
+    ]),
+    // Where the reading refuses, and what the controls are to count as nothing.
+    Cases(Seen::refused_by_reading, &[("refused at the header body", 700, |seen| seen.place() == 0)]),
+    Records(Seen::refused_record, &[
+        ("refused at a batch header", 400, |record| record[0] == b'5'),
+        ("refused at an individual record", 1_000, |record| record[0] == b'6'),
+        ("refused at an additional", 500, |record| record[0] == b'7'),
+        ("refused at a batch control", 200, |record| record[0] == b'8'),
+        ("refused at the file control", 5, |record| record[0] == b'9'),
+    ]),
+    Records(Seen::refused_individual, &[
+        ("amount zero", 1, |record| record[AMOUNT] == [b'0'; 10]),
+        ("amount with a blank", 1, |record| record[AMOUNT].contains(&b' ')),
+        ("amount with a letter", 1, |record| record[AMOUNT].iter().any(u8::is_ascii_uppercase)),
+        ("destination with a blank", 1, |record| record[DESTINATION].contains(&b' ')),
+        ("destination with a letter", 1, |record| record[DESTINATION].iter().any(u8::is_ascii_uppercase)),
+    ]),
+    Cases(|seen| seen.refused(201), &[
+        ("201 by one record", 15, |seen| seen.needed() == 940_094),
+        ("201 by the controls", 60, |seen| seen.tray_records() <= 9_998),
+        ("201 by far", 3, |seen| seen.tray_records() > 100_000),
+        ("201 with room for it", 70, |seen| !seen.is_short()),
+        ("201 and 206", 10, |seen| seen.lent() < 940_000),
+        ("201 and a file to be refused", 60, Seen::is_to_be_refused),
+    ]),
+    Cases(|seen| seen.refused(206), &[("206 and a file to be refused", 1_000, Seen::is_to_be_refused)]),
+    // Each way in which a tray is no tray, and what comes with it.
+    Cases(|seen| seen.refused(207), &[
+        ("207 for the header body's length", 600, |seen| seen.header_length() != 94 && seen.left_over() == 0),
+        ("207 for a header body of 0 bytes", 100, |seen| seen.header_length() == 0),
+        ("207 for a header body of 93 bytes", 100, |seen| seen.header_length() == 93),
+        ("207 for a header body of 95 bytes", 100, |seen| seen.header_length() == 95),
+        ("207 for a header body of 188 bytes", 100, |seen| seen.header_length() == 188),
+        ("207 for the tray's length", 700, |seen| seen.header_length() == 94 && seen.left_over() > 0),
+        ("207 for both lengths", 100, |seen| seen.header_length() != 94 && seen.left_over() > 0),
+        ("207 for a length and a record", 300, |seen| !seen.has_lengths() && seen.malformed().is_some()),
+        ("207 for two records", 300, Seen::is_malformed_twice),
+        ("207 and 201", 20, |seen| seen.needed() > 940_000),
+        ("207 and 206", 1_000, |seen| seen.needed() <= 940_000 && seen.is_short()),
+        ("207 and a file to be refused", 400, Seen::is_to_be_refused),
+        ("207 at the first record", 800, |seen| seen.has_lengths() && seen.place() == 0),
+        ("207 at the last record", 700, |seen| seen.has_lengths() && seen.place() + 1 == seen.tray_records()),
+        ("207 beyond the limit", 1, |seen| seen.has_lengths() && seen.place() >= 10_000),
+    ]),
+    Different(&[("tray lengths left over", 95, |seen| Some(seen.left_over()).filter(|&bytes| bytes > 0 && seen.refused(207)))]),
+    Records(Seen::bad_record, &[
+        ("207 for the first byte of a mark", 200, |record| keeps_letter(record, 1)),
+        ("207 for the second byte of a mark", 100, |record| keeps_letter(record, 0)),
+        ("207 for a mark of two marks' letters", 50, mixes_letters),
+        ("207 for mark and type", 200, mixes_kinds),
+        ("207 for type 1", 50, |record| bad_type(record) == Some(b'1')),
+        ("207 for type 8", 50, |record| bad_type(record) == Some(b'8')),
+        ("207 for type 9", 60, |record| bad_type(record) == Some(b'9')),
+        ("207 for another type", 200, |record| bad_type(record).is_some_and(|kind| !b"189".contains(&kind))),
+        ("207 for position 88", 60, |record| stray_at(record) == Some(88)),
+        ("207 for position 89", 60, |record| stray_at(record) == Some(89)),
+        ("207 for position 90", 70, |record| stray_at(record) == Some(90)),
+        ("207 for position 91", 70, |record| stray_at(record) == Some(91)),
+        ("207 for position 92", 70, |record| stray_at(record) == Some(92)),
+        ("207 for position 93", 60, |record| stray_at(record) == Some(93)),
+        ("207 for position 94", 100, |record| stray_at(record) == Some(94)),
+        ("207 for a digit in the tail", 200, |record| stray_byte(record).is_some_and(|byte| byte.is_ascii_digit())),
+        ("207 for a blank in the tail", 100, |record| stray_byte(record) == Some(b' ')),
+        ("207 for a letter in the tail", 90, |record| stray_byte(record).is_some_and(|byte| byte.is_ascii_uppercase())),
+        ("207 for another byte in the tail", 60, |record| stray_byte(record).is_some_and(is_odd)),
+        ("207 for a tail of blanks", 80, |record| bad_tail(record) == Some(b"       ")),
+    ]),
+    // What the generator has made.
+    Named(&[
+        ("good", 2_000), ("largest sums", 50), ("largest totals", 50),
+        ("thirteen digits in a batch", 100), ("thirteen digits in the file", 70),
+        ("around the limit", 200), ("fault in a field", 1_000), ("fault in the header body", 400),
+        ("bytes changed", 400), ("bad character", 200), ("sender's digits", 200),
+        ("AD before IN", 80), ("IN before LO", 70), ("AD before LO", 70), ("no LO", 70),
+        ("LO alone", 70), ("LO LO", 70), ("LO at the end", 80), ("AD twice", 60), ("AD lost", 70),
+        ("AD not due", 70), ("one kind only", 80), ("records swapped", 80), ("mark", 400),
+        ("kind", 400), ("tail", 400), ("tray length", 400), ("header length", 400),
+        ("207 twice", 400), ("207 and a fault in a field", 400), ("random bytes", 200),
+        ("another date", 70), ("rules of no date", 60), ("other currency", 60),
+        ("empty roster", 60), ("entity struck", 60),
+    ]),
+];
+
+pub const STRIPS: &[Rows<StripCase>] = &[
+    Named(&[
+        ("strips", 20_000), ("accepted", 5_000), ("accepted in pesos", 2_000), ("accepted in dollars", 2_000),
+        ("accepted into exactly its length", 2_000), ("accepted with one byte over", 700), ("accepted with much over", 300),
+        ("refused 201", 200), ("refused 17", 1_000), ("refused 19", 90), ("refused 25", 300), ("refused 27", 90),
+        ("refused 75", 500), ("refused 77", 70), ("refused 78", 90), ("refused 79", 70), ("refused 87", 70),
+        ("refused 203", 100), ("refused 204", 100), ("refused 206", 2_000),
+        ("206 with no byte lent", 300), ("206 with 93 bytes lent", 300), ("206 with one byte missing", 700),
+        ("206 with one body missing", 300), ("206 for 10000 records", 1),
+    ]),
+    Cases(Seen::accepted, &[
+        ("nothing to strip", 400, |seen| seen.needed() == 0),
+        ("nothing to strip, and no room", 300, |seen| seen.lent() == 0),
+        ("from 10000 records", 4, Seen::is_full),
+        ("the file comes back", 1_000, Seen::is_as_built),
+        ("another file comes back", 3_000, |seen| !seen.is_as_built()),
+        ("not quite as built but for one batch number", 500, |seen| seen.is_not_quite("as built but for one batch number")),
+        ("not quite as built but for one counter", 500, |seen| seen.is_not_quite("as built but for one counter")),
+        ("not quite as built but for a free position", 600, |seen| seen.is_not_quite("as built but for a free position")),
+    ]),
+    Records(Seen::accepted_records, &[
+        ("code 37", 30_000, |record| record.starts_with(b"637")),
+        ("code 36", 5_000, |record| record.starts_with(b"636")),
+        ("code 32", 3_000, |record| record.starts_with(b"632")),
+        ("code 31", 3_000, |record| record.starts_with(b"631")),
+    ]),
+    Cases(Seen::refused_by_reading, &[
+        ("after a refused opening", 500, |seen| !seen.opened()),
+        ("a refused file and too small a buffer", 1_000, Seen::is_short),
+    ]),
+    // What the generator has made.
+    Named(&[
+        ("good", 2_000), ("free positions filled", 400), ("batches renumbered", 400),
+        ("as built", 1_000), ("one fault", 600), ("two faults in one record", 200),
+        ("two faults in two records", 200), ("byte flipped", 600), ("fault", 700),
+        ("flipped", 100), ("cut", 100), ("length", 70), ("cut after a record", 30),
+        ("record dropped", 30), ("record doubled", 30), ("records swapped", 30),
+        ("surplus after the 9", 30), ("another type", 100), ("record inserted", 40),
+        ("additional missing", 30), ("additional surplus", 30), ("empty batch", 50),
+        ("another date", 1), ("rules of no date", 1), ("date of too many digits", 1),
+        ("other currency", 1), ("empty roster", 1), ("entity struck", 1),
+    ]),
+];

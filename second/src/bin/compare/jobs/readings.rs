@@ -1,0 +1,43 @@
+//! Both readings on generated files.
+
+use super::job::{Job, Seen};
+use super::showing::show_and_keep;
+use second::generate::{generate, Case};
+use second::{proved, read, Refusal};
+
+impl Job for Case {
+    type Answer = Result<usize, Refusal>;
+    const JOB: &'static str = "readings";
+    const CASE: &'static str = "file";
+    const GENERATE: fn(u64, u64) -> Self = generate;
+
+    fn by_second(&self) -> Self::Answer {
+        read(&self.rules, &self.file)
+    }
+
+    fn by_proved(&self) -> Result<Self::Answer, String> {
+        Ok(proved::read(&self.rules, &self.file))
+    }
+
+    fn shows(seen: &Seen<Case>, name: &str) -> u64 {
+        u64::from(name == "files" || is_named(seen.answer, name))
+    }
+
+    fn show(&self, ours: &Self::Answer, theirs: &Result<Self::Answer, String>, name: &str) {
+        let on_it = (0..500).filter(|&entity| self.rules.roster[entity]);
+        println!("date {}, {:?}", self.rules.date, self.rules.currency);
+        println!("roster {:?}", on_it.collect::<Vec<usize>>());
+        println!("second: {ours:?}");
+        println!("proved: {theirs:?}");
+        println!("meant:  {:?} ({})", self.expected, self.family);
+        show_and_keep(&self.file, 94, name);
+    }
+}
+
+/// "accepted", or "refused" and a number.
+pub fn is_named<T>(answer: Result<T, Refusal>, name: &str) -> bool {
+    match answer {
+        Ok(_) => name == "accepted",
+        Err(refusal) => name.strip_prefix("refused ") == Some(&refusal.number.to_string()),
+    }
+}
