@@ -5,7 +5,6 @@ ghost use Prim.Native.Nat.{_^_, _≤_};
 ghost use lib.ListN.{length};
 ghost use Rattle.paper.specs.Controls.{plus, withIndividual, withAdditional};
 ghost use Rattle.controls.specs.Bounds.{Below};
-use characters::number;
 use field::individual;
 use field::kind;
 use paper::record::Tally;
@@ -36,7 +35,7 @@ pub fn with_individual(tally: Tally, rec: &[u8]) -> Tally
     let amount = individual::amount(rec);
     Tally {
         records: tally.records + 1,
-        destinations: tally.destinations + number::number(rec, 4, 11),
+        destinations: tally.destinations + individual::destination_field(rec),
         debits: tally.debits + on_side(kind::collects(code), amount),
         credits: tally.credits + on_side(kind::pays(code), amount),
     }

@@ -46,17 +46,19 @@ module _ (es : List ℕ) (i : ℕ) where
 -- ---- everybody
 
 -- the first i of 499 numbers are written
-abbrev pub Numbered : List ℕ → ℕ → Type 0
-Numbered entities i = (i ≤ 499) × (length entities ≡ 499) × (take i entities ≡ numbersTo i)
+pub record Numbered (entities : List ℕ) (i : ℕ) : Type 0 where
+  pub few : i ≤ 499
+  pub size : length entities ≡ 499
+  pub written : take i entities ≡ numbersTo i
 
 module _ (entities : List ℕ) (i : ℕ) (k : Numbered entities i) where
   pub number-turn : i < 499 → take (i + 1) (set entities i (i + 1)) ≡ numbersTo (i + 1)
   unfolding numbersTo
   number-turn h =
       let e = add-one i in
-      ap (λ (n : ℕ). take n (set entities i n)) e ∙ (take-suc-set entities i (suc i) (omega (arith, k .1)) ∙ (ap (λ (l : List ℕ). l ++ suc i ∷ []) (k .2) ∙ ap numbersTo (sym e)))
+      ap (λ (n : ℕ). take n (set entities i n)) e ∙ (take-suc-set entities i (suc i) (omega (arith, k .size)) ∙ (ap (λ (l : List ℕ). l ++ suc i ∷ []) (k .written) ∙ ap numbersTo (sym e)))
 
   pub number-end : 499 ≤ i → entities ≡ numbersTo 499
   number-end h =
-      let e : i ≡ 499 = omega (arith, k .0) in
-      sym (take-all i entities (omega (arith, k .1))) ∙ (k .2 ∙ ap numbersTo e)
+      let e : i ≡ 499 = omega (arith, k .few) in
+      sym (take-all i entities (omega (arith, k .size))) ∙ (k .written ∙ ap numbersTo e)

@@ -2,7 +2,7 @@
 ghost use mathlib.Core.Path.{_≡_};
 ghost use Prim.Native.Nat.{_<_, _^_};
 ghost use lib.ListN.{length};
-ghost use Rattle.paper.specs.Records.{amountOf, destinationIn, senderIn, flaggedIn};
+ghost use Rattle.paper.specs.Records.{amountOf, destinationIn, destinationField, senderIn, flaggedIn};
 use crate::entity;
 use characters::number;
 use characters::text;
@@ -21,6 +21,14 @@ pub fn destination(rec: &[u8]) -> u64
     ensures { λ r. ⌜ (r ≡ destinationIn (now (rec .entry))) × (r < 500) ⌝ }
 {
     entity::entity(rec, 4, 11)
+}
+
+// Entity and branch as one number, as the controls add it up.
+pub fn destination_field(rec: &[u8]) -> u64
+    requires { ⌜ length (now rec) ≡ 94 ⌝ }
+    ensures { λ r. ⌜ (r ≡ destinationField (now (rec .entry))) × (r < 10 ^ 8) ⌝ }
+{
+    number::number(rec, 4, 11)
 }
 
 pub fn sender(rec: &[u8]) -> u64

@@ -4,9 +4,9 @@ use mathlib.Core.Bool.{cond}
 use mathlib.Core.List.{List}
 use Rattle.paper.specs.declared.record.Tally.{Tally}
 use Rattle.paper.specs.Checks.{Check, need, _also_}
-use Rattle.paper.specs.Fields.{field, same, number, spells}
+use Rattle.paper.specs.Fields.{field, same, spells}
 use Rattle.paper.specs.Kinds.{codeOf, collects, pays}
-use Rattle.paper.specs.Records.{amountOf}
+use Rattle.paper.specs.Records.{amountOf, destinationField}
 
 abbrev pub zeros : Tally
 zeros = record { records = 0; destinations = 0; debits = 0; credits = 0 }
@@ -22,7 +22,7 @@ plus a b = record {
 unfoldable pub withIndividual : Tally → List ℕ → Tally
 withIndividual t r = record {
   records = t .records + 1;
-  destinations = t .destinations + number (field r 4 11);
+  destinations = t .destinations + destinationField r;
   debits = t .debits + cond (collects (codeOf r)) (amountOf r) 0;
   credits = t .credits + cond (pays (codeOf r)) (amountOf r) 0;
 }

@@ -51,6 +51,10 @@ amountOf r = number (field r 30 39)
 abbrev pub destinationIn : List ℕ → ℕ
 destinationIn r = entity (field r 4 11)
 
+-- entity and branch as one number, as the controls add it up
+abbrev pub destinationField : List ℕ → ℕ
+destinationField r = number (field r 4 11)
+
 -- the sender; of a batch header too
 abbrev pub senderIn : List ℕ → ℕ
 senderIn r = entity (field r 80 87)

@@ -11,7 +11,7 @@ returns c =
     let at-pays : tie.After-pays = search in
     let at-on-side : tie.After-on-side = search in
     let at-collects : tie.After-collects = search in
-    let at-number : tie.After-number = search in
+    let at-destination : tie.After-destination-field = search in
     let at-amount : tie.After-amount = search in
     let at-code : tie.After-code = search in
     simp (
@@ -19,7 +19,7 @@ returns c =
       at-pays .pays .ensures,
       at-on-side .on-side .ensures .0,
       at-collects .collects .ensures,
-      at-number .number .ensures .0,
+      at-destination .destination-field .ensures .0,
       at-amount .amount .ensures .0,
       at-code .code .ensures,
     )

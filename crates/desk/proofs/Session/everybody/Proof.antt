@@ -16,13 +16,17 @@ abbrev μ-loop : tie.MeasureT-loop
 
 loop-holds : tie.Need-loop-holds Inv-loop μ-loop
 unfolding numbersTo
-loop-holds c = (omega arith, refl, refl)
+loop-holds c = record { few = omega arith; size = refl; written = refl }
 
 loop-again : tie.Need-loop-again Inv-loop μ-loop
 loop-again c =
     let head : tie.At-loop Inv-loop μ-loop = search in
     let l = head .loop in
-    (omega (arith, c .loop-test .taken), length-set (l .entities) (l .i) _ ∙ l .inv .1, number-turn (l .entities) (l .i) (l .inv) (c .loop-test .taken))
+    record {
+      few = omega (arith, c .loop-test .taken);
+      size = length-set (l .entities) (l .i) _ ∙ l .inv .size;
+      written = number-turn (l .entities) (l .i) (l .inv) (c .loop-test .taken);
+    }
 
 returns : tie.Need-returns Inv-loop μ-loop
 returns c = let head : tie.At-loop Inv-loop μ-loop = search in number-end (head .loop .entities) (head .loop .i) (head .loop .inv) (c .loop-test .left)
