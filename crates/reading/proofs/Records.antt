@@ -54,15 +54,15 @@ stands-before place st its-additional s = s
 stands-before place st next-individual s = s
 stands-before place st batch-closes s = s
 
--- what a record's step asks, by the kind that it turned out to be
-pub ready : {file : List ℕ} {place : ℕ} {st : State} {kind is : Kind} → Arrived file place st → kindOf (recordAt file place) ≡ kind
-    → allowed (st .before) kind ≡ fine → kind ≡ is → Ready is file place st
-ready {place = place} {st = st} {is = is} a told may e = record {
+-- what a record's step asks, where its type may stand
+pub ready : {file : List ℕ} {place : ℕ} {st : State} {kind : Kind} → Arrived file place st → kindOf (recordAt file place) ≡ kind
+    → allowed (st .before) kind ≡ fine → Ready kind file place st
+ready {place = place} {st = st} {kind = kind} a told may = record {
   short = a .short;
   inside = a .inside;
-  told = told ∙ e;
+  told = told;
   room = a .room;
-  stands = stands-before place st (follows (st .before) is (rw e at may)) (a .preceded);
+  stands = stands-before place st (follows (st .before) kind may) (a .preceded);
 }
 
 -- a step as the reading takes it

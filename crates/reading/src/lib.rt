@@ -3,12 +3,9 @@ ghost use mathlib.Core.Path.{_≡_};
 ghost use mathlib.Core.Bool.{true};
 ghost use Prim.Native.Nat.{_/_};
 ghost use lib.ListN.{length};
-ghost use Rattle.paper.specs.Checks.{fine};
 ghost use Rattle.paper.specs.Fields.{every, good};
-ghost use Rattle.paper.specs.Kinds.{kindOf, allowed};
 ghost use Rattle.paper.specs.Reading.{finish, lengthGood, reading};
-ghost use Rattle.field.specs.Places.{recordAt};
-ghost use Rattle.state.specs.States.{stepped, Arrived};
+ghost use Rattle.state.specs.States.{stepped, Arrived, Ready};
 ghost use Rattle.verdicts.specs.Verdicts.{under};
 ghost use Rattle.reading.specs.Said.{readingSays, Carries};
 ghost use Rattle.reading.specs.Taken.{taken, Comes};
@@ -73,9 +70,7 @@ fn fields(
     kind: Kind,
     state: State,
 ) -> Step
-    requires { ⌜ Arrived (now file) place state ⌝ }
-    requires { ⌜ kindOf (recordAt (now file) place) ≡ kind ⌝ }
-    requires { ⌜ allowed (state .before) kind ≡ fine ⌝ }
+    requires { ⌜ Ready kind (now file) place state ⌝ }
     ensures { λ r. ⌜ Comes (stepped (under terms (now (roster .entry))) (now (file .entry)) place state) (now (file .entry)) place r ⌝ }
 {
     match kind {

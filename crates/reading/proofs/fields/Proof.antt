@@ -2,33 +2,33 @@ use mathlib.Core.Path.{refl}
 use borrow.Author.Needs.{needs}
 use Rattle.paper.specs.Reading.{fields}
 use Rattle.state.proofs.Steps.{stops-at}
-use Rattle.reading.proofs.Records.{ready, comes}
+use Rattle.reading.proofs.Records.{comes}
 use Rattle.reading.proofs.fields.Statement.{statement}
 use Rattle.reading.proofs.fields.Tie as tie
 
 step-requires : tie.Need-step-requires
-step-requires c κs = let start : tie.Start = search in ready (start .pre .0) (start .pre .1 .0) (start .pre .1 .1) (c .enum-told .given .1)
+step-requires c κs = let start : tie.Start = search in rw (c .enum-told .given .1) at (start .pre)
 
 step-requires-2 : tie.Need-step-requires-2
-step-requires-2 c κs = let start : tie.Start = search in ready (start .pre .0) (start .pre .1 .0) (start .pre .1 .1) (c .enum-told2 .given .1)
+step-requires-2 c κs = let start : tie.Start = search in rw (c .enum-told2 .given .1) at (start .pre)
 
 step-requires-3 : tie.Need-step-requires-3
-step-requires-3 c κs = let start : tie.Start = search in ready (start .pre .0) (start .pre .1 .0) (start .pre .1 .1) (c .enum-told3 .given .1)
+step-requires-3 c κs = let start : tie.Start = search in rw (c .enum-told3 .given .1) at (start .pre)
 
 step-requires-4 : tie.Need-step-requires-4
-step-requires-4 c κs = let start : tie.Start = search in ready (start .pre .0) (start .pre .1 .0) (start .pre .1 .1) (c .enum-told4 .given .1)
+step-requires-4 c κs = let start : tie.Start = search in rw (c .enum-told4 .given .1) at (start .pre)
 
 step-requires-5 : tie.Need-step-requires-5
-step-requires-5 c κs = let start : tie.Start = search in ready (start .pre .0) (start .pre .1 .0) (start .pre .1 .1) (c .enum-told5 .given .1)
+step-requires-5 c κs = let start : tie.Start = search in rw (c .enum-told5 .given .1) at (start .pre)
 
 step-requires-6 : tie.Need-step-requires-6
-step-requires-6 c κs = let start : tie.Start = search in ready (start .pre .0) (start .pre .1 .0) (start .pre .1 .1) (c .enum-told6 .given .1)
+step-requires-6 c κs = let start : tie.Start = search in rw (c .enum-told6 .given .1) at (start .pre)
 
 returns-7 : tie.Need-returns-7
 unfolding fields
 returns-7 c =
     let start : tie.Start = search in
-    comes (stops-at _ (ready (start .pre .0) (start .pre .1 .0) (start .pre .1 .1) (c .enum-told7 .given .1)) refl)
+    comes (stops-at _ (rw (c .enum-told7 .given .1) at (start .pre)) refl)
 
 pub fields-spec : {M : Type 1} → statement M
 fields-spec =

@@ -8,7 +8,7 @@ use Rattle.field.specs.Places.{recordAt}
 use Rattle.state.specs.States.{stepSays, Kept}
 use Rattle.verdicts.specs.Verdicts.{checkOf}
 use Rattle.verdicts.proofs.Chain.{begun}
-use Rattle.reading.proofs.Records.{clean-record, first, stands, falls}
+use Rattle.reading.proofs.Records.{clean-record, ready, first, stands, falls}
 use Rattle.reading.proofs.step.Statement.{statement}
 use Rattle.reading.proofs.step.Tie as tie
 
@@ -45,13 +45,9 @@ fields-requires : tie.Need-fields-requires
 fields-requires c κs =
     let kind : tie.After-kind = search in
     let rec : tie.After-record-at = search in
-    let start : tie.Start = search in (
-      start .pre .0,
-      (
-        sym (kind .kind .ensures ∙ ap kindOf (rec .record-at .ensures .0)),
-        rw (kind .kind .ensures, rec .record-at .ensures .0) (also-r (need (every good (recordAt _ _)) 17) (allowed _ _) (stood c)),
-      ),
-    )
+    let start : tie.Start = search in
+    ready (start .pre .0) (sym (kind .kind .ensures ∙ ap kindOf (rec .record-at .ensures .0)))
+    (rw (kind .kind .ensures, rec .record-at .ensures .0) (also-r (need (every good (recordAt _ _)) 17) (allowed _ _) (stood c)))
 
 returns : tie.Need-returns
 returns c = record { says = c .fields .ensures .says ∙ stands _ _ _ _ (stood (search)); kept = c .fields .ensures .kept }
