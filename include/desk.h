@@ -1,23 +1,23 @@
-/* The clearing desk of document 01, for programs in C and C++: the functions of libexport.a, which are proved Rattle code.
-   `bash bindings/library` writes the archive; besides it a program, of 64 bits, needs only its C library.
+/* The clearing desk of document 01, for programs in C and C++: the functions of libshaydhoqel.a and libshaydhoqel.so, which are
+   proved Rattle code. `bash bindings/library` writes both; besides one of them a program, of 64 bits, needs only its C library.
 
    What is lent
      A slice is a pointer and a length, which counts elements. Where the length is 0 the pointer may be any, NULL too: nothing
      is read or written through it. Otherwise it points to that many elements of its type, set and aligned; those behind a
      pointer that is not const may be written. An array with its size in brackets is never NULL and has that many elements.
      What a call may write overlaps nothing else that the call is lent.
-     Nothing is kept after the call, allocated, or shared between calls: threads may call at once. A call takes some 200 KB of
-     stack.
+     Nothing is kept after the call, allocated, or shared between calls: threads may call at once. The stack that a call needs is
+     SHAYDHOQEL_STACK_ and its name, below.
 
    What is answered
      Every function answers for any bytes of any length. A refusal is a number and the place of the record it stands at, from 0;
-     the place is 0 where the refusal is tied to no record.
+     the place is 0 where the refusal is tied to no record, and SHAYDHOQEL_OPENING where the session was not opened.
 
    Sessions
      A session is opened with a date (AAMMDD, as the number those digits spell), a currency (dollars or else pesos) and a list of
-     entity numbers, in any order, repeats allowed, possibly empty. A bad date is 75; then a number not 1 to 499 is 208. A refused
-     opening returns the session of 000101, pesos, nobody on the roster, and every file is refused there.
-     Only shaydhoqel_day says the opening's answer; it may be called for that with no files. */
+     entity numbers, in any order, repeats allowed, possibly empty. A bad date is 75; then a number not 1 to 499 is 208.
+     Every function but shaydhoqel_listing opens one first. Where the opening is refused, that is the answer, by its number and the
+     place SHAYDHOQEL_OPENING: nothing else is done, and nothing lent is written. */
 #ifndef SHAYDHOQEL_DESK_H
 #define SHAYDHOQEL_DESK_H
 
@@ -42,6 +42,20 @@ extern "C" {
 
 /* Bytes of the longest listing. */
 #define SHAYDHOQEL_LISTING 33525
+
+/* The place of a refused opening: no record stands there, so that it is not taken for the job's own refusal. */
+#define SHAYDHOQEL_OPENING UINT64_MAX
+
+/* Bytes of stack that suffice for a thread that makes this call; at least 16 KB of them are left to the thread and its caller.
+   SHAYDHOQEL_STACK suffices for every call. */
+#define SHAYDHOQEL_STACK 262144
+#define SHAYDHOQEL_STACK_READ 131072
+#define SHAYDHOQEL_STACK_DAY 262144
+#define SHAYDHOQEL_STACK_DAY_LISTING 262144
+#define SHAYDHOQEL_STACK_LISTING 196608
+#define SHAYDHOQEL_STACK_EXTRACT 131072
+#define SHAYDHOQEL_STACK_BUILD 131072
+#define SHAYDHOQEL_STACK_STRIP 131072
 
 /* Figures of the cells, in one buffer: figure f of entity e stands at index f * SHAYDHOQEL_ENTITIES + e. A later library may know more
    figures. They stand behind these, so that no index moves, and a caller that lends room for these sees no other. */
@@ -94,35 +108,34 @@ enum shaydhoqel_number {
 };
 
 /* An answer. Accepted: number is 0, and place is the count that the function names, or 0 where it names none.
-   Refused: number is one of the above, and place is where. */
+   Refused: number is one of the above, and place is where; SHAYDHOQEL_OPENING where no session was opened. */
 struct shaydhoqel_spoken {
     uint64_t number;
     uint64_t place;
 };
 
-/* Reads a file in a session of this date, currency and roster, and counts its records. roster[e] says whether entity e is on the
-   roster: each mark is 0 or 1 and no other byte. No session is opened, so the date may be any number; one that is no date is that of
-   no file. */
-struct shaydhoqel_spoken shaydhoqel_read(uint64_t date, bool dollars, const bool roster[SHAYDHOQEL_ENTITIES],
+/* Opens a session, reads a file in it, and counts the file's records. */
+struct shaydhoqel_spoken shaydhoqel_read(uint64_t date, bool dollars, const uint64_t *entities, size_t entities_length,
                                          const uint8_t *file, size_t file_length);
 
-/* A day: opens a session, presents the files to it in turn, and answers for the opening.
+/* A day: opens a session, presents the files to it in turn, and answers for the opening: accepted, with no count, or refused, with
+   answers and figures as they were. With no files it may be called to try an opening.
    files: all files, one behind the other. ends: where each ends in it, so that file i is the bytes from ends[i - 1], or 0 for the
    first, up to ends[i], as far as there are any; one that ends before it begins is empty, and refused by 201.
    answers: the answer on file i is written to answers[2 i] (number, 0 if accepted) and answers[2 i + 1] (place), where there is
    room for both; the rest stays, so 2 * ends_length elements take all.
    figures: figure f of entity e at the end of the day is written to figures[f * SHAYDHOQEL_ENTITIES + e], for all 500 entity numbers,
    where there is room for it; the rest stays, so SHAYDHOQEL_FIGURES * SHAYDHOQEL_ENTITIES elements take all. A refused file changes
-   no figure, and uses up no identifier.
-   After a refused opening the files are presented all the same, each is refused, and all figures are 0. */
+   no figure, and uses up no identifier. */
 struct shaydhoqel_spoken shaydhoqel_day(uint64_t date, bool dollars, const uint64_t *entities, size_t entities_length,
                                         const uint64_t *ends, size_t ends_length, const uint8_t *files, size_t files_length,
                                         uint64_t *answers, size_t answers_length, int64_t *figures, size_t figures_length);
 
-/* The listing of the session at the end of such a day, whatever the answers were. It stands at the front of out, whose rest stays;
-   returned is its number of bytes. No byte 0 ends it. */
-uint64_t shaydhoqel_day_listing(uint64_t date, bool dollars, const uint64_t *entities, size_t entities_length, const uint64_t *ends,
-                                size_t ends_length, const uint8_t *files, size_t files_length, uint8_t out[SHAYDHOQEL_LISTING]);
+/* The listing of the session at the end of such a day, whatever the files' answers were: counts its bytes. It stands at the front of
+   out, whose rest stays; no byte 0 ends it. Refused only where the opening is, with nothing written. */
+struct shaydhoqel_spoken shaydhoqel_day_listing(uint64_t date, bool dollars, const uint64_t *entities, size_t entities_length,
+                                                const uint64_t *ends, size_t ends_length, const uint8_t *files,
+                                                size_t files_length, uint8_t out[SHAYDHOQEL_LISTING]);
 
 /* What the program `positions` prints for this input: the listing of one file, read by its own date and currency with 1 to 499 on
    the roster, or its refusal, as REFUSED 19 AT 2; an input of more than 65,424 bytes is REFUSED 201 AT 0. It stands at the front of
@@ -130,22 +143,22 @@ uint64_t shaydhoqel_day_listing(uint64_t date, bool dollars, const uint64_t *ent
 uint64_t shaydhoqel_listing(const uint8_t *input, size_t input_length, uint8_t out[SHAYDHOQEL_LISTING]);
 
 /* Opens a session, and extracts from a file what is addressed to one entity: counts the bytes written at the front of out. Refused
-   by 208, then as the file's reading is, then by 206, with nothing written; the rest of out always stays. A buffer of the file's
-   length is always enough. */
+   as the opening is, then by 208, then as the file's reading is, then by 206, with nothing written; the rest of out always stays.
+   A buffer of the file's length is always enough. */
 struct shaydhoqel_spoken shaydhoqel_extract(uint64_t date, bool dollars, const uint64_t *entities, size_t entities_length,
                                             uint64_t entity, const uint8_t *file, size_t file_length, uint8_t *out,
                                             size_t out_length);
 
-/* Opens a session, and builds a file from a header body of 94 bytes and a tray: counts the bytes written at the front of out. Refused by
-   207 (at 0 for a wrong length of either, else at the first bad record of the tray), then by 201, then by 206, each with nothing written;
-   then as the reading of the file built is, with spaces in all the bytes that the file would have taken. The rest of out always stays.
-   SHAYDHOQEL_FILE_LIMIT bytes are always enough. */
+/* Opens a session, and builds a file from a header body of 94 bytes and a tray: counts the bytes written at the front of out. Refused as
+   the opening is, then by 207 (at 0 for a wrong length of either, else at the first bad record of the tray), then by 201, then by 206,
+   each with nothing written; then as the reading of the file built is, with spaces in all the bytes that the file would have taken. The
+   rest of out always stays. SHAYDHOQEL_FILE_LIMIT bytes are always enough. */
 struct shaydhoqel_spoken shaydhoqel_build(uint64_t date, bool dollars, const uint64_t *entities, size_t entities_length,
                                           const uint8_t *header, size_t header_length, const uint8_t *tray, size_t tray_length,
                                           uint8_t *out, size_t out_length);
 
-/* Opens a session, and strips a file to its tray: counts the bytes written at the front of out. Refused as the file's reading is, then
-   by 206, with nothing written; the rest of out always stays. SHAYDHOQEL_TRAY_ROOM bytes are always enough. */
+/* Opens a session, and strips a file to its tray: counts the bytes written at the front of out. Refused as the opening is, then as the
+   file's reading is, then by 206, with nothing written; the rest of out always stays. SHAYDHOQEL_TRAY_ROOM bytes are always enough. */
 struct shaydhoqel_spoken shaydhoqel_strip(uint64_t date, bool dollars, const uint64_t *entities, size_t entities_length,
                                           const uint8_t *file, size_t file_length, uint8_t *out, size_t out_length);
 

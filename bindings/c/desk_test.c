@@ -86,14 +86,11 @@ static void make_tray(void) {
 }
 
 static void reads(void) {
-    bool roster[SHAYDHOQEL_ENTITIES] = {false};
-    roster[401] = roster[402] = roster[403] = true;
-    REQUIRE(says(shaydhoqel_read(DATE, false, roster, SLICE(l)), SHAYDHOQEL_ACCEPTED, 10));
-    REQUIRE(says(shaydhoqel_read(DATE, true, roster, SLICE(l)), SHAYDHOQEL_REFUSED_CURRENCY, 0));
-    REQUIRE(says(shaydhoqel_read(DATE + 1, false, roster, SLICE(l)), SHAYDHOQEL_REFUSED_DATE, 0));
-    REQUIRE(says(shaydhoqel_read(DATE, false, roster, NULL, 0), SHAYDHOQEL_REFUSED_LENGTH, 0));
-    roster[403] = false;
-    REQUIRE(says(shaydhoqel_read(DATE, false, roster, SLICE(l)), SHAYDHOQEL_REFUSED_ROSTER, 3));
+    REQUIRE(says(shaydhoqel_read(OPENING, SLICE(l)), SHAYDHOQEL_ACCEPTED, 10));
+    REQUIRE(says(shaydhoqel_read(DATE, true, members, 3, SLICE(l)), SHAYDHOQEL_REFUSED_CURRENCY, 0));
+    REQUIRE(says(shaydhoqel_read(DATE - 1, false, members, 3, SLICE(l)), SHAYDHOQEL_REFUSED_DATE, 0));
+    REQUIRE(says(shaydhoqel_read(OPENING, NULL, 0), SHAYDHOQEL_REFUSED_LENGTH, 0));
+    REQUIRE(says(shaydhoqel_read(DATE, false, members, 2, SLICE(l)), SHAYDHOQEL_REFUSED_ROSTER, 3));
 }
 
 /* Where figure f of entity e stands, and how many numbers there are. */
@@ -130,7 +127,7 @@ static void day_with_the_file_twice(void) {
         REQUIRE(figures_hold(figures, lengths[i], sizeof figures / sizeof figures[0], expected));
     }
     refill();
-    REQUIRE(shaydhoqel_day_listing(OPENING, SLICE(ends), SLICE(files), listing_out) == strlen(text));
+    REQUIRE(says(shaydhoqel_day_listing(OPENING, SLICE(ends), SLICE(files), listing_out), SHAYDHOQEL_ACCEPTED, strlen(text)));
     REQUIRE(holds(SLICE(listing_out), text, strlen(text)));
     refill();
     REQUIRE(shaydhoqel_listing(SLICE(l), listing_out) == strlen(text));
@@ -147,26 +144,40 @@ static void empty_days(void) {
     REQUIRE(memcmp(figures, zeros, sizeof figures) == 0);
     REQUIRE(says(shaydhoqel_day(OPENING, &end, 1, NULL, 0, NULL, 0, NULL, 0), SHAYDHOQEL_ACCEPTED, 0));
     refill();
-    REQUIRE(shaydhoqel_day_listing(DATE, false, NULL, 0, NULL, 0, NULL, 0, listing_out) == strlen(nothing));
+    REQUIRE(says(shaydhoqel_day_listing(DATE, false, NULL, 0, NULL, 0, NULL, 0, listing_out), SHAYDHOQEL_ACCEPTED, strlen(nothing)));
     REQUIRE(holds(SLICE(listing_out), nothing, strlen(nothing)));
     refill();
     REQUIRE(shaydhoqel_listing(NULL, 0, listing_out) == strlen(refusal));
     REQUIRE(holds(SLICE(listing_out), refusal, strlen(refusal)));
 }
 
-static void bad_openings(void) {
-    static int64_t figures[ALL_FIGURES], zeros[ALL_FIGURES];
+/* The opening's number, at the place where no record stands. */
+static bool not_opened(struct shaydhoqel_spoken answer, uint64_t number) {
+    return says(answer, number, SHAYDHOQEL_OPENING);
+}
+
+/* Each job, on what it accepts once the session is opened; nothing lent is written. */
+static void bad_opening(uint64_t date, uint64_t number) {
+    static int64_t figures[ALL_FIGURES];
     const uint64_t end = L_LENGTH, bad[] = {401, 402, 403, 500};
     uint64_t answer[2];
-    REQUIRE(says(shaydhoqel_day(DATE + 1, false, SLICE(bad), NULL, 0, NULL, 0, NULL, 0, NULL, 0), SHAYDHOQEL_REFUSED_DATE, 0));
+    memset(answer, JUNK, sizeof answer);
     memset(figures, JUNK, sizeof figures);
-    REQUIRE(says(shaydhoqel_day(DATE, false, SLICE(bad), &end, 1, SLICE(l), SLICE(answer), SLICE(figures)), SHAYDHOQEL_REFUSED_ENTITY, 0));
-    REQUIRE(answer[0] == SHAYDHOQEL_REFUSED_DATE && answer[1] == 0);
-    REQUIRE(memcmp(figures, zeros, sizeof figures) == 0);
     refill();
-    REQUIRE(says(shaydhoqel_extract(DATE, false, SLICE(bad), 402, SLICE(l), SLICE(file_out)), SHAYDHOQEL_REFUSED_ENTITY, 0));
-    REQUIRE(says(shaydhoqel_strip(DATE, false, SLICE(bad), SLICE(l), SLICE(tray_out)), SHAYDHOQEL_REFUSED_DATE, 0));
-    REQUIRE(all(JUNK, SLICE(file_out)) && all(JUNK, SLICE(tray_out)));
+    REQUIRE(not_opened(shaydhoqel_read(date, false, SLICE(bad), SLICE(l)), number));
+    REQUIRE(not_opened(shaydhoqel_day(date, false, SLICE(bad), NULL, 0, NULL, 0, NULL, 0, NULL, 0), number));
+    REQUIRE(not_opened(shaydhoqel_day(date, false, SLICE(bad), &end, 1, SLICE(l), SLICE(answer), SLICE(figures)), number));
+    REQUIRE(not_opened(shaydhoqel_day_listing(date, false, SLICE(bad), &end, 1, SLICE(l), listing_out), number));
+    REQUIRE(not_opened(shaydhoqel_extract(date, false, SLICE(bad), 402, SLICE(l), SLICE(file_out)), number));
+    REQUIRE(not_opened(shaydhoqel_build(date, false, SLICE(bad), l, SHAYDHOQEL_RECORD, SLICE(tray), SLICE(file_out)), number));
+    REQUIRE(not_opened(shaydhoqel_strip(date, false, SLICE(bad), SLICE(l), SLICE(tray_out)), number));
+    REQUIRE(all(JUNK, (const uint8_t *)answer, sizeof answer) && all(JUNK, (const uint8_t *)figures, sizeof figures));
+    REQUIRE(all(JUNK, SLICE(listing_out)) && all(JUNK, SLICE(file_out)) && all(JUNK, SLICE(tray_out)));
+}
+
+static void bad_openings(void) {
+    bad_opening(DATE + 1, SHAYDHOQEL_REFUSED_DATE);
+    bad_opening(DATE, SHAYDHOQEL_REFUSED_ENTITY);
 }
 
 static void extracts(void) {

@@ -3,12 +3,13 @@
 //! `include/desk.h` says of each what it answers, and what it leaves in the buffers. The rest of this crate is these calls with buffers
 //! of its own and answers taken apart.
 
-use crate::{Currency, Opening, Roster, ENTITIES, LISTING};
+use crate::{Currency, Opening, LISTING};
 
 #[cfg(not(target_pointer_width = "64"))]
 compile_error!("the proved library counts bytes in 64 bits");
 
-/// An answer in two numbers: 0 and a count, or the refusal number and its place.
+/// An answer in two numbers: 0 and a count, or the refusal number and its place, which is [`OPENING`](crate::OPENING) where no session
+/// was opened.
 #[repr(C)]
 #[derive(Clone, Copy, Debug, PartialEq, Eq)]
 pub struct Spoken {
@@ -22,7 +23,8 @@ unsafe extern "C" {
     fn shaydhoqel_read(
         date: u64,
         dollars: bool,
-        roster: &[bool; ENTITIES],
+        entities: *const u64,
+        entities_length: usize,
         file: *const u8,
         file_length: usize,
     ) -> Spoken;
@@ -52,7 +54,7 @@ unsafe extern "C" {
         files: *const u8,
         files_length: usize,
         out: &mut [u8; LISTING],
-    ) -> u64;
+    ) -> Spoken;
 
     fn shaydhoqel_listing(input: *const u8, input_length: usize, out: &mut [u8; LISTING]) -> u64;
 
@@ -95,7 +97,7 @@ unsafe extern "C" {
 
 /// A call that begins with an opening: plain arguments, then slices as pointer and length, then what is written.
 macro_rules! opened {
-    ($job:ident, $opening:expr, [$($plain:expr),*], [$($slice:expr),*], $($out:expr),+) => {
+    ($job:ident, $opening:expr, [$($plain:expr),*], [$($slice:expr),*] $(, $out:expr)*) => {
         $job(
             $opening.date,
             dollars($opening.currency),
@@ -103,7 +105,7 @@ macro_rules! opened {
             $opening.entities.len(),
             $($plain,)*
             $($slice.as_ptr(), $slice.len(),)*
-            $($out),+
+            $($out),*
         )
     };
 }
@@ -112,10 +114,10 @@ fn dollars(currency: Currency) -> bool {
     currency == Currency::Dollars
 }
 
-pub fn read(date: u64, currency: Currency, roster: &Roster, file: &[u8]) -> Spoken {
-    // SAFETY: each pointer comes with its slice's length or points to a whole array, all borrowed for the time of the call, which is as long
-    // as the library uses them; it only reads, and a bool is a mark of 0 or 1.
-    unsafe { shaydhoqel_read(date, dollars(currency), roster, file.as_ptr(), file.len()) }
+pub fn read(opening: &Opening, file: &[u8]) -> Spoken {
+    // SAFETY: each pointer comes with its slice's length, borrowed for the time of the call, which is as long as the library uses it; it
+    // only reads.
+    unsafe { opened!(shaydhoqel_read, opening, [], [file]) }
 }
 
 /// Answer `i` stands in `answers[2 * i]` and the element behind it, where there is room for both; figure `f` of entity `e` in
@@ -129,7 +131,7 @@ pub fn day(
 ) -> Spoken {
     let (answers, answers_length) = (answers.as_mut_ptr(), answers.len());
     let (figures, figures_length) = (figures.as_mut_ptr(), figures.len());
-    // SAFETY: as for reading; what is written is borrowed mutably, so that it overlaps nothing.
+    // SAFETY: as for reading; what is written is borrowed mutably, so that it overlaps nothing, and an array is whole.
     unsafe {
         opened!(
             shaydhoqel_day,
@@ -144,8 +146,13 @@ pub fn day(
     }
 }
 
-/// The number of bytes at the front of the buffer.
-pub fn day_listing(opening: &Opening, ends: &[u64], files: &[u8], out: &mut [u8; LISTING]) -> u64 {
+/// Counts the bytes at the front of the buffer.
+pub fn day_listing(
+    opening: &Opening,
+    ends: &[u64],
+    files: &[u8],
+    out: &mut [u8; LISTING],
+) -> Spoken {
     // SAFETY: as for a day.
     unsafe { opened!(shaydhoqel_day_listing, opening, [], [ends, files], out) }
 }

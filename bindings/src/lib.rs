@@ -1,22 +1,26 @@
 //! The clearing desk of document 01 for programs in Rust: safe calls of the proved library.
 //!
-//! `bash bindings/library` writes the library's archive; a program is built with `PROVED_LIBRARY` naming the archive's folder in full.
+//! `bash bindings/library` writes the library's archive, and a program is built with it; one in another folder is named, in full, by
+//! `PROVED_LIBRARY`.
 //!
 //! ```
-//! use desk::{Currency, Opening, Refusal};
+//! use desk::{Currency, Fault, Opening, Place, Refusal};
 //!
 //! let opening = Opening {
 //!     date: 250_630,
 //!     currency: Currency::Pesos,
 //!     entities: &[401, 402, 403],
 //! };
-//! let day = opening.day(&[b"no file"]);
-//! assert_eq!(day.opening, Ok(()));
-//! let refusal = Refusal {
-//!     number: Refusal::LENGTH,
-//!     place: 0,
-//! };
-//! assert_eq!(day.answers, [Err(refusal)]);
+//! match opening.read(b"no file") {
+//!     Ok(records) => println!("{records} records"),
+//!     Err(Refusal { place: Place::Opening, .. }) => println!("no session"),
+//!     Err(Refusal { fault: Fault::Length, .. }) => println!("no whole records"),
+//!     Err(refusal) => println!("{} {refusal}", refusal.number()),
+//! }
+//! let day = opening.day(&[b"no file", b""])?;
+//! assert!(day.answers.iter().all(Result::is_err));
+//! assert_eq!(day.cells[401].position, 0);
+//! # Ok::<(), Refusal>(())
 //! ```
 
 #![deny(unsafe_code)]
@@ -26,8 +30,10 @@ pub mod calls;
 mod opening;
 mod refusal;
 
+use std::convert::Infallible;
+
 pub use opening::{Cell, Currency, Day, Opening};
-pub use refusal::Refusal;
+pub use refusal::{Fault, Place, Refusal, UnknownNumber};
 
 /// Bytes of a record.
 pub const RECORD: usize = 94;
@@ -59,24 +65,45 @@ pub const RECEIVED: usize = 2;
 /// How many figures there are.
 pub const FIGURES: usize = 3;
 
-/// `roster[e]` says whether entity `e` is on it.
-pub type Roster = [bool; ENTITIES];
+/// The place of a refused opening, in what the calls say; [`Place::Opening`] here.
+pub const OPENING: u64 = u64::MAX;
 
-/// Reads a file in a session of this date, currency and roster, and counts its records.
-///
-/// No session is opened, so the date may be any number; one that is no date is that of no file.
-pub fn read(date: u64, currency: Currency, roster: &Roster, file: &[u8]) -> Result<usize, Refusal> {
-    calls::read(date, currency, roster, file).counted()
-}
+/// Bytes of stack that suffice for a thread that makes any call. Those that follow suffice for the call that they name.
+pub const STACK: usize = 262_144;
+
+/// For [`Opening::read`].
+pub const STACK_READ: usize = 131_072;
+
+/// For [`Opening::day`].
+pub const STACK_DAY: usize = 262_144;
+
+/// For [`Opening::day_listing`].
+pub const STACK_DAY_LISTING: usize = 262_144;
+
+/// For [`listing`].
+pub const STACK_LISTING: usize = 196_608;
+
+/// For [`Opening::extract`].
+pub const STACK_EXTRACT: usize = 131_072;
+
+/// For [`Opening::build`].
+pub const STACK_BUILD: usize = 131_072;
+
+/// For [`Opening::strip`].
+pub const STACK_STRIP: usize = 131_072;
 
 /// What the program `positions` prints for this input: the listing of one file, or its refusal.
 pub fn listing(input: &[u8]) -> Vec<u8> {
-    listed(|out| calls::listing(input, out))
+    let listed = listed::<Infallible>(|out| Ok(calls::listing(input, out) as usize));
+    listed.unwrap_or_else(|never| match never {})
 }
 
-/// The text that a call leaves at the front of its buffer.
-fn listed(call: impl FnOnce(&mut [u8; LISTING]) -> u64) -> Vec<u8> {
-    let mut out = [0; LISTING];
-    let length = call(&mut out) as usize;
-    out[..length].to_vec()
+/// The text that a call leaves at the front of its buffer, and counts.
+fn listed<E>(call: impl FnOnce(&mut [u8; LISTING]) -> Result<usize, E>) -> Result<Vec<u8>, E> {
+    // on the heap, so that a call takes no more stack than the library does
+    let mut out = vec![0; LISTING];
+    let lent = out.first_chunk_mut().expect("so many bytes were lent");
+    let length = call(lent)?;
+    out.truncate(length);
+    Ok(out)
 }

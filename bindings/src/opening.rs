@@ -3,17 +3,17 @@
 use crate::calls::{self, Spoken};
 use crate::{listed, Refusal, ENTITIES, FIGURES, POSITION, RECEIVED, SENT};
 
-#[derive(Clone, Copy, Debug, PartialEq, Eq)]
+#[derive(Clone, Copy, Debug, PartialEq, Eq, Hash)]
 pub enum Currency {
     Pesos,
     Dollars,
 }
 
-/// What a session is opened with.
+/// What a session is opened with, for each job anew.
 ///
-/// A bad date is refused by 75, then a number not 1 to 499 by 208. A refused opening returns the session of 000101, pesos, nobody on
-/// the roster: the jobs below are done in that, where every file is refused. [`Opening::answer`] tells the two apart.
-#[derive(Clone, Copy, Debug, PartialEq, Eq)]
+/// A bad date is refused by 75, then an entity number not 1 to 499 by 208, at [`Place::Opening`](crate::Place::Opening): the job is not
+/// begun then, and nothing lent is written.
+#[derive(Clone, Copy, Debug, PartialEq, Eq, Hash)]
 pub struct Opening<'a> {
     /// AAMMDD, as the number those digits spell.
     pub date: u64,
@@ -37,46 +37,49 @@ pub struct Cell {
 #[derive(Clone, Debug, PartialEq, Eq)]
 #[non_exhaustive]
 pub struct Day {
-    /// As [`Opening::answer`].
-    pub opening: Result<(), Refusal>,
     /// One for each file.
     pub answers: Vec<Result<(), Refusal>>,
-    /// By entity number.
-    pub cells: [Cell; ENTITIES],
+    /// By entity number, for all [`ENTITIES`].
+    pub cells: Vec<Cell>,
 }
 
 impl Opening<'_> {
-    /// The opening's own answer: 75, then 208, at 0.
+    /// The opening's own answer.
     pub fn answer(&self) -> Result<(), Refusal> {
-        self.day(&[]).opening
+        calls::day(self, &[], &[], &mut [], &mut []).answer()
+    }
+
+    /// Reads a file, and counts its records.
+    pub fn read(&self, file: &[u8]) -> Result<usize, Refusal> {
+        calls::read(self, file).counted()
     }
 
     /// Presents the files in turn. A refused one changes no cell and uses up no identifier.
-    pub fn day(&self, files: &[&[u8]]) -> Day {
+    pub fn day(&self, files: &[&[u8]]) -> Result<Day, Refusal> {
         let mut said = vec![0; 2 * files.len()];
-        let mut figures = [0; FIGURES * ENTITIES];
-        let opened = calls::day(self, &ends(files), &files.concat(), &mut said, &mut figures);
+        let mut figures = vec![0; FIGURES * ENTITIES];
+        calls::day(self, &ends(files), &files.concat(), &mut said, &mut figures).answer()?;
         let answer = |pair: &[u64]| {
             let (number, place) = (pair[0], pair[1]);
             Spoken { number, place }.answer()
         };
-        Day {
-            opening: opened.answer(),
+        let cell = |entity| {
+            let figure = |figure| figures[figure * ENTITIES + entity];
+            Cell {
+                position: figure(POSITION),
+                sent: figure(SENT) as u64,
+                received: figure(RECEIVED) as u64,
+            }
+        };
+        Ok(Day {
             answers: said.chunks_exact(2).map(answer).collect(),
-            cells: std::array::from_fn(|entity| {
-                let figure = |figure| figures[figure * ENTITIES + entity];
-                Cell {
-                    position: figure(POSITION),
-                    sent: figure(SENT) as u64,
-                    received: figure(RECEIVED) as u64,
-                }
-            }),
-        }
+            cells: (0..ENTITIES).map(cell).collect(),
+        })
     }
 
     /// The listing of the session at the end of such a day, whatever the answers were.
-    pub fn day_listing(&self, files: &[&[u8]]) -> Vec<u8> {
-        listed(|out| calls::day_listing(self, &ends(files), &files.concat(), out))
+    pub fn day_listing(&self, files: &[&[u8]]) -> Result<Vec<u8>, Refusal> {
+        listed(|out| calls::day_listing(self, &ends(files), &files.concat(), out).counted())
     }
 
     /// Writes what the file holds for one entity at the front of the buffer, and counts its bytes; the rest of the buffer stays.

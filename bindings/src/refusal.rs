@@ -1,54 +1,126 @@
-//! The numbers on the counter.
+//! Refusals: what is wrong, by its number on the counter, and where.
 
 use crate::calls::Spoken;
+use crate::OPENING;
 use std::error::Error;
 use std::fmt::{self, Display, Formatter};
 
-/// A refusal number of document 01, and the place of the record it stands at, from 0; 0 too where it is tied to no record.
+/// One table for the enum, its numbers and its words.
+macro_rules! faults {
+    ($($name:ident = $number:literal, $words:literal;)+) => {
+        /// What is wrong, with its number in document 01. Shown, it says that in words.
+        ///
+        /// A later library may know more: a `match` has an arm for those. Where a number is unknown here, the library is not that of these
+        /// bindings, and a call panics.
+        #[derive(Clone, Copy, Debug, PartialEq, Eq, Hash)]
+        #[non_exhaustive]
+        #[repr(u16)]
+        pub enum Fault {
+            $(#[doc = $words] $name = $number,)+
+        }
+
+        impl Fault {
+            /// Every one, in the order of document 01's table.
+            pub const ALL: &'static [Fault] = &[$(Fault::$name),+];
+
+            fn words(self) -> &'static str {
+                match self {
+                    $(Fault::$name => $words,)+
+                }
+            }
+        }
+    };
+}
+
+faults! {
+    Length = 201, "file shorter than 188 or longer than 940,000 bytes, or no multiple of 94";
+    Format = 17, "character, order, fixed field, entity or control wrong";
+    Amount = 19, "amount not ten digits, or zero";
+    Additional = 25, "additional record missing, surplus or wrong";
+    Counter = 27, "counter out of sequence";
+    Date = 75, "date wrong";
+    Reserved = 77, "individual record, field 4: the reserved zero";
+    Account = 78, "individual record, field 5: the account";
+    Reference = 79, "individual record, field 7: the reference of the debit";
+    Information = 87, "individual record, field 9: the information on the transaction";
+    Currency = 203, "entity of the other currency";
+    Roster = 204, "entity not on the roster";
+    Room = 206, "output buffer shorter than the output";
+    Tray = 207, "tray or header body malformed";
+    Entity = 208, "entity number not 1 to 499, or, when extracting, not on the roster";
+    Identifier = 209, "identifier already accepted from this origin";
+}
+
+impl Fault {
+    /// The number on the counter.
+    pub const fn number(self) -> u64 {
+        self as u64
+    }
+}
+
+impl Display for Fault {
+    fn fmt(&self, f: &mut Formatter<'_>) -> fmt::Result {
+        f.write_str(self.words())
+    }
+}
+
+impl From<Fault> for u64 {
+    fn from(fault: Fault) -> u64 {
+        fault.number()
+    }
+}
+
+impl TryFrom<u64> for Fault {
+    type Error = UnknownNumber;
+
+    fn try_from(number: u64) -> Result<Fault, UnknownNumber> {
+        let known = Fault::ALL.iter().find(|fault| fault.number() == number);
+        known.copied().ok_or(UnknownNumber(number))
+    }
+}
+
+/// No [`Fault`] has this number.
 #[derive(Clone, Copy, Debug, PartialEq, Eq)]
+pub struct UnknownNumber(pub u64);
+
+impl Display for UnknownNumber {
+    fn fmt(&self, f: &mut Formatter<'_>) -> fmt::Result {
+        write!(f, "no refusal known here has number {}", self.0)
+    }
+}
+
+impl Error for UnknownNumber {}
+
+/// Where a refusal stands.
+#[derive(Clone, Copy, Debug, PartialEq, Eq, Hash)]
+pub enum Place {
+    /// The opening itself was refused: nothing else was done, and nothing lent was written.
+    Opening,
+    /// At this record, from 0; at 0 too where the refusal is tied to no record.
+    Record(usize),
+}
+
+/// A refusal: what is wrong, and where.
+#[derive(Clone, Copy, Debug, PartialEq, Eq, Hash)]
 pub struct Refusal {
-    pub number: u64,
-    pub place: usize,
+    pub fault: Fault,
+    pub place: Place,
 }
 
 impl Refusal {
-    /// File shorter than 188 or longer than 940,000 bytes, or no multiple of 94.
-    pub const LENGTH: u64 = 201;
-    /// Character, order, fixed field, entity or control wrong.
-    pub const FORMAT: u64 = 17;
-    /// Amount not ten digits, or zero.
-    pub const AMOUNT: u64 = 19;
-    /// Additional record missing, surplus or wrong.
-    pub const ADDITIONAL: u64 = 25;
-    /// Counter out of sequence.
-    pub const COUNTER: u64 = 27;
-    /// Date wrong.
-    pub const DATE: u64 = 75;
-    /// Individual record, field 4: the reserved zero.
-    pub const RESERVED: u64 = 77;
-    /// Individual record, field 5: the account.
-    pub const ACCOUNT: u64 = 78;
-    /// Individual record, field 7: the reference of the debit.
-    pub const REFERENCE: u64 = 79;
-    /// Individual record, field 9: the information on the transaction.
-    pub const INFORMATION: u64 = 87;
-    /// Entity of the other currency.
-    pub const CURRENCY: u64 = 203;
-    /// Entity not on the roster.
-    pub const ROSTER: u64 = 204;
-    /// Output buffer shorter than the output.
-    pub const ROOM: u64 = 206;
-    /// Tray or header body malformed.
-    pub const TRAY: u64 = 207;
-    /// Entity number not 1 to 499, or, when extracting, not on the roster.
-    pub const ENTITY: u64 = 208;
-    /// Identifier already accepted from this origin.
-    pub const IDENTIFIER: u64 = 209;
+    /// The number on the counter.
+    pub const fn number(&self) -> u64 {
+        self.fault.number()
+    }
 }
 
 impl Display for Refusal {
     fn fmt(&self, f: &mut Formatter<'_>) -> fmt::Result {
-        write!(f, "refused {} at {}", self.number, self.place)
+        let (number, fault) = (self.number(), self.fault);
+        match self.place {
+            Place::Opening => write!(f, "opening refused {number}: {fault}"),
+            Place::Record(record) => write!(f, "refused {number} at {record}: {fault}"),
+        }
     }
 }
 
@@ -61,11 +133,21 @@ impl Spoken {
     }
 
     /// Records read or bytes written, or the refusal.
+    ///
+    /// # Panics
+    /// Where no fault has the number: no answer of such a library can be relied on.
     pub(crate) fn counted(self) -> Result<usize, Refusal> {
-        let place = self.place as usize;
-        match self.number {
-            0 => Ok(place),
-            number => Err(Refusal { number, place }),
+        if self.number == 0 {
+            return Ok(self.place as usize);
         }
+        let fault = Fault::try_from(self.number);
+        Err(Refusal {
+            fault: fault
+                .unwrap_or_else(|unknown| panic!("a library of another version: {unknown}")),
+            place: match self.place {
+                OPENING => Place::Opening,
+                place => Place::Record(place as usize),
+            },
+        })
     }
 }

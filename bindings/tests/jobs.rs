@@ -4,7 +4,7 @@ mod common;
 
 use common::{junk, lent, record, refused, tray_of, L, OPENING};
 use desk::calls::{self, Spoken};
-use desk::{Cell, Currency, Opening, Refusal};
+use desk::{Cell, Currency, Fault, Opening};
 use desk::{ENTITIES, FIGURES, FILE_LIMIT, POSITION, RECEIVED, RECORD, SENT, TRAY_ROOM};
 
 const LISTING: &str = "ENTITY SENT RECEIVED NET
@@ -16,23 +16,26 @@ SUM 3 3 0
 
 #[test]
 fn read() {
-    let answer = |currency, entities: &[usize]| {
-        let roster = std::array::from_fn(|entity| entities.contains(&entity));
-        desk::read(250_630, currency, &roster, L)
+    let answer = |currency, entities: &[u64]| {
+        let opening = Opening {
+            currency,
+            entities,
+            ..OPENING
+        };
+        opening.read(L)
     };
-    assert_eq!(answer(Currency::Pesos, &[401, 402, 403]), Ok(10));
-    let currency = refused(Refusal::CURRENCY, 0);
+    assert_eq!(answer(Currency::Pesos, &[403, 401, 402, 401]), Ok(10));
+    let currency = refused(Fault::Currency, 0);
     assert_eq!(answer(Currency::Dollars, &[401, 402, 403]), currency);
-    let first_to_403 = refused(Refusal::ROSTER, 3);
+    let first_to_403 = refused(Fault::Roster, 3);
     assert_eq!(answer(Currency::Pesos, &[401, 402]), first_to_403);
 }
 
 #[test]
 fn day_with_the_file_twice() {
-    let day = OPENING.day(&[L, L]);
-    assert_eq!(day.opening, Ok(()));
-    assert_eq!(day.answers, [Ok(()), refused(Refusal::IDENTIFIER, 0)]);
-    let mut expected = [Cell::default(); ENTITIES];
+    let day = OPENING.day(&[L, L]).unwrap();
+    assert_eq!(day.answers, [Ok(()), refused(Fault::Identifier, 0)]);
+    let mut expected = vec![Cell::default(); ENTITIES];
     for (entity, position, sent, received) in [
         (401, 60_000, 2, 1),
         (402, -12_500, 0, 1),
@@ -85,8 +88,8 @@ fn figures_in_a_buffer_of_any_length() {
 fn files_of_a_day_are_kept_apart() {
     let mut other = L.to_vec();
     other[33] = b'B';
-    let day = OPENING.day(&[b"", L, &L[1..], &other]);
-    let wrong = refused(Refusal::LENGTH, 0);
+    let day = OPENING.day(&[b"", L, &L[1..], &other]).unwrap();
+    let wrong = refused(Fault::Length, 0);
     assert_eq!(day.answers, [wrong, Ok(()), wrong, Ok(())]);
     assert_eq!(day.cells[402].position, -25_000);
 }
@@ -94,7 +97,7 @@ fn files_of_a_day_are_kept_apart() {
 #[test]
 fn listings() {
     let listed = OPENING.day_listing(&[L, L]);
-    assert_eq!(listed, LISTING.as_bytes());
+    assert_eq!(listed.unwrap(), LISTING.as_bytes());
     assert_eq!(desk::listing(L), LISTING.as_bytes());
     let zero_amount = include_bytes!("../../samples/zero-amount.txt");
     assert_eq!(desk::listing(zero_amount), b"REFUSED 19 AT 2\n");
@@ -142,7 +145,7 @@ fn strip_and_build_back() {
 fn build_from_an_empty_tray() {
     let (answer, buffer) = lent(2 * RECORD, |out| OPENING.build(record(L, 0), &[], out));
     assert_eq!(answer, Ok(2 * RECORD));
-    assert_eq!(OPENING.day(&[&buffer]).answers, [Ok(())]);
+    assert_eq!(OPENING.day(&[&buffer]).unwrap().answers, [Ok(())]);
 }
 
 #[test]
@@ -152,5 +155,6 @@ fn dollars() {
         ..OPENING
     };
     assert_eq!(opening.answer(), Ok(()));
-    assert_eq!(opening.day(&[L]).answers, [refused(Refusal::CURRENCY, 0)]);
+    let day = opening.day(&[L]).unwrap();
+    assert_eq!(day.answers, [refused(Fault::Currency, 0)]);
 }

@@ -3,33 +3,35 @@
 mod common;
 
 use common::{junk, lent, record, refused, tray_of, L, OPENING};
-use desk::{Cell, Currency, Opening, Refusal, ENTITIES, RECORD, TRAY_RECORD};
+use desk::calls::{self, Spoken};
+use desk::{Cell, Fault, Opening, Place, Refusal, UnknownNumber};
+use desk::{ENTITIES, FIGURES, LISTING, RECORD, TRAY_RECORD};
 
 /// The job is refused, and its buffer stays as it was.
 fn stays(
     length: usize,
-    expected: (u64, usize),
+    expected: (Fault, usize),
     job: impl FnOnce(&mut [u8]) -> Result<usize, Refusal>,
 ) {
-    let (number, place) = expected;
+    let (fault, record) = expected;
     let (answer, buffer) = lent(length, job);
-    assert_eq!(answer, refused(number, place));
+    assert_eq!(answer, refused(fault, record));
     assert!(buffer == junk(length), "the buffer after {answer:?}");
 }
 
 #[test]
 fn extracting() {
     for entity in [0, 404, 500, u64::MAX] {
-        let not_here = (Refusal::ENTITY, 0);
+        let not_here = (Fault::Entity, 0);
         stays(L.len(), not_here, |out| OPENING.extract(entity, L, out));
     }
     let mut zero_amount = L.to_vec();
     zero_amount[2 * RECORD..][29..39].fill(b'0');
-    let amount = (Refusal::AMOUNT, 2);
+    let amount = (Fault::Amount, 2);
     stays(L.len(), amount, |out| {
         OPENING.extract(402, &zero_amount, out)
     });
-    let short = (Refusal::ROOM, 0);
+    let short = (Fault::Room, 0);
     stays(5 * RECORD - 1, short, |out| OPENING.extract(402, L, out));
     stays(0, short, |out| OPENING.extract(402, L, out));
 }
@@ -37,9 +39,9 @@ fn extracting() {
 #[test]
 fn stripping() {
     let cut = &L[..L.len() - RECORD];
-    stays(L.len(), (Refusal::FORMAT, 9), |out| OPENING.strip(cut, out));
+    stays(L.len(), (Fault::Format, 9), |out| OPENING.strip(cut, out));
     let tray = tray_of(L);
-    stays(tray.len() - 1, (Refusal::ROOM, 0), |out| {
+    stays(tray.len() - 1, (Fault::Room, 0), |out| {
         OPENING.strip(L, out)
     });
 }
@@ -47,7 +49,7 @@ fn stripping() {
 #[test]
 fn building_leaves_the_buffer() {
     let (header, tray) = (record(L, 0), tray_of(L));
-    let malformed = (Refusal::TRAY, 0);
+    let malformed = (Fault::Tray, 0);
     stays(L.len(), malformed, |out| {
         OPENING.build(&header[1..], &tray, out)
     });
@@ -56,14 +58,14 @@ fn building_leaves_the_buffer() {
     });
     let mut bad_mark = tray.clone();
     bad_mark[3 * TRAY_RECORD] = b'X';
-    stays(L.len(), (Refusal::TRAY, 3), |out| {
+    stays(L.len(), (Fault::Tray, 3), |out| {
         OPENING.build(header, &bad_mark, out)
     });
     let additional = &tray[5 * TRAY_RECORD..];
-    stays(L.len(), (Refusal::LENGTH, 0), |out| {
+    stays(L.len(), (Fault::Length, 0), |out| {
         OPENING.build(header, &additional.repeat(9_999), out)
     });
-    stays(L.len() - 1, (Refusal::ROOM, 0), |out| {
+    stays(L.len() - 1, (Fault::Room, 0), |out| {
         OPENING.build(header, &tray, out)
     });
 }
@@ -73,61 +75,107 @@ fn building_what_the_reading_refuses_leaves_spaces() {
     let mut tray = tray_of(L);
     tray[TRAY_RECORD..][31..41].fill(b'0');
     let (answer, buffer) = lent(L.len() + 5, |out| OPENING.build(record(L, 0), &tray, out));
-    assert_eq!(answer, refused(Refusal::AMOUNT, 2));
+    assert_eq!(answer, refused(Fault::Amount, 2));
     assert_eq!(buffer, [vec![b' '; L.len()], junk(5)].concat());
 }
 
 #[test]
 fn empty_files() {
-    let roster = [true; ENTITIES];
-    let length = refused(Refusal::LENGTH, 0);
-    assert_eq!(desk::read(250_630, Currency::Pesos, &roster, &[]), length);
+    let length = refused(Fault::Length, 0);
+    assert_eq!(OPENING.read(&[]), length);
     assert_eq!(OPENING.extract(402, &[], &mut []), length);
     assert_eq!(OPENING.strip(&[], &mut []), length);
-    assert_eq!(OPENING.build(&[], &[], &mut []), refused(Refusal::TRAY, 0));
+    assert_eq!(OPENING.build(&[], &[], &mut []), refused(Fault::Tray, 0));
     assert_eq!(desk::listing(&[]), b"REFUSED 201 AT 0\n");
-    assert_eq!(
-        OPENING.day(&[b"", b""]).answers,
-        [refused(Refusal::LENGTH, 0); 2]
-    );
+    let day = OPENING.day(&[b"", b""]).unwrap();
+    assert_eq!(day.answers, [refused(Fault::Length, 0); 2]);
 }
 
 #[test]
 fn a_day_without_files() {
-    let day = OPENING.day(&[]);
-    assert_eq!((day.opening, day.answers), (Ok(()), vec![]));
-    assert_eq!(day.cells, [Cell::default(); ENTITIES]);
+    let day = OPENING.day(&[]).unwrap();
+    assert_eq!(day.answers, []);
+    assert_eq!(day.cells, vec![Cell::default(); ENTITIES]);
     let nothing = b"ENTITY SENT RECEIVED NET\nSUM 0 0 0\n";
-    assert_eq!(OPENING.day_listing(&[]), nothing);
+    assert_eq!(OPENING.day_listing(&[]).unwrap(), nothing);
+    assert_eq!(OPENING.answer(), Ok(()));
+}
+
+/// Every job says the opening's refusal, and writes nothing.
+fn assert_not_opened(opening: Opening, fault: Fault) {
+    let place = Place::Opening;
+    let refusal = Refusal { fault, place };
+    assert_eq!(opening.answer(), Err(refusal));
+    assert_eq!(opening.read(L), Err(refusal));
+    assert_eq!(opening.day(&[L]), Err(refusal));
+    assert_eq!(opening.day_listing(&[L]), Err(refusal));
+    let jobs: [&dyn Fn(&mut [u8]) -> Result<usize, Refusal>; 3] = [
+        &|out| opening.extract(402, L, out),
+        &|out| opening.build(record(L, 0), &tray_of(L), out),
+        &|out| opening.strip(L, out),
+    ];
+    for job in jobs {
+        let (answer, buffer) = lent(L.len(), job);
+        assert_eq!((answer, buffer), (Err(refusal), junk(L.len())));
+    }
+    let (said, number) = (|said: Spoken| (said.number, said.place), fault.number());
+    let (mut answers, mut figures, mut out) = ([7; 2], [7; FIGURES * ENTITIES], [7; LISTING]);
+    let day = calls::day(&opening, &[940], L, &mut answers, &mut figures);
+    assert_eq!(said(day), (number, desk::OPENING));
+    assert_eq!((answers, figures), ([7; 2], [7; FIGURES * ENTITIES]));
+    let listing = calls::day_listing(&opening, &[940], L, &mut out);
+    assert_eq!(said(listing), (number, desk::OPENING));
+    assert_eq!(out, [7; LISTING]);
 }
 
 #[test]
 fn bad_openings() {
-    let bad_date = Opening {
-        date: 250_631,
-        entities: &[500],
-        ..OPENING
-    };
-    assert_eq!(bad_date.answer(), refused(Refusal::DATE, 0));
-    let bad_entity = Opening {
-        entities: &[401, 402, 403, 500],
-        ..OPENING
-    };
-    assert_eq!(bad_entity.answer(), refused(Refusal::ENTITY, 0));
-    for opening in [bad_date, bad_entity] {
-        let day = opening.day(&[L]);
-        assert_eq!(day.opening, opening.answer());
-        assert_eq!(day.answers, [refused(Refusal::DATE, 0)], "not of 000101");
-        assert_eq!(day.cells, [Cell::default(); ENTITIES]);
-        let nobody = (Refusal::ENTITY, 0);
-        stays(L.len(), nobody, |out| opening.extract(402, L, out));
-        let other_date = (Refusal::DATE, 0);
-        stays(L.len(), other_date, |out| opening.strip(L, out));
-    }
+    let (date, entities) = (250_631, [401, 402, 403, 500]);
+    let entities = &entities;
+    assert_not_opened(Opening { date, ..OPENING }, Fault::Date);
+    assert_not_opened(
+        Opening {
+            date,
+            entities,
+            ..OPENING
+        },
+        Fault::Date,
+    );
+    assert_not_opened(
+        Opening {
+            entities,
+            ..OPENING
+        },
+        Fault::Entity,
+    );
+    let entities = &[0];
+    assert_not_opened(
+        Opening {
+            entities,
+            ..OPENING
+        },
+        Fault::Entity,
+    );
 }
 
 #[test]
-fn shown_as_number_and_place() {
+fn shown_in_words() {
     let refusal = OPENING.strip(&[], &mut []).unwrap_err();
-    assert_eq!(refusal.to_string(), "refused 201 at 0");
+    let words = "file shorter than 188 or longer than 940,000 bytes, or no multiple of 94";
+    assert_eq!(refusal.to_string(), format!("refused 201 at 0: {words}"));
+    let bad_date = Opening { date: 0, ..OPENING };
+    let refusal = bad_date.read(L).unwrap_err();
+    assert_eq!(refusal.to_string(), "opening refused 75: date wrong");
+}
+
+#[test]
+fn a_fault_gives_its_number_and_back() {
+    for &fault in Fault::ALL {
+        assert_eq!(Fault::try_from(fault.number()), Ok(fault));
+        assert_eq!(u64::from(fault), fault.number());
+    }
+    for number in [0, 16, 210, 65_536 + 17, u64::MAX] {
+        assert_eq!(Fault::try_from(number), Err(UnknownNumber(number)));
+    }
+    assert_eq!(Fault::Identifier.number(), 209);
 }

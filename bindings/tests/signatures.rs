@@ -1,30 +1,37 @@
-//! Signatures stand by hand in `crates/export`, `include/desk.h` and `src/calls.rs`: they are compared, and with them the struct of an answer
-//! and the constants, which for Rust stand in `src/lib.rs` and `src/refusal.rs`.
+//! Signatures stand by hand in `crates/export`, `include/desk.h` and `src/calls.rs`: they are compared, and with them the struct of an
+//! answer. So are the constants, which stand in `src/lib.rs`, `src/refusal.rs` and `python/shaydhoqel.py` besides. What Python declares
+//! of the functions is compared in its own tests.
 
 mod declarations;
 
-use declarations::{around, header_constants, of_calls, of_export, of_header};
-use declarations::{rust_constants, value, Constants, Declarations};
-use std::collections::BTreeSet;
+use declarations::{around, faults, header_constants, of_calls, of_export, of_header};
+use declarations::{python_constants, rust_constants, value, Constants, Declarations};
+use std::collections::{BTreeMap, BTreeSet};
 use std::fs;
 use std::path::{Path, PathBuf};
 
-const PLACES: [&str; 3] = ["crates/", "include/desk.h", "bindings/src/"];
+const PLACES: [&str; 4] = [
+    "crates/",
+    "include/desk.h",
+    "bindings/src/",
+    "bindings/python/",
+];
 
 /// Constants of the boundary, by those of the crates.
-const SHARED: [(&str, &str); 6] = [
+const SHARED: [(&str, &str); 7] = [
     ("RECORD", "Session::RECORD"),
     ("FILE_LIMIT", "Session::FILE_LIMIT"),
     ("TRAY_RECORD", "Tray::RECORD"),
     ("TRAY_ROOM", "Record::MOST * Tray::RECORD"),
     ("ENTITIES", "Session::ROSTER"),
     ("LISTING", "Listing::ROOM"),
+    ("OPENING", "Spoken::OPENING"),
 ];
 
 // ---- comparing
 
-/// Where the three do not declare the same: the first difference of each name.
-fn differences(declared: &[Declarations; 3]) -> Vec<String> {
+/// Where the first places do not declare the same: the first difference of each name.
+fn differences<const N: usize>(declared: &[Declarations; N]) -> Vec<String> {
     let names: BTreeSet<_> = declared.iter().flat_map(Declarations::keys).collect();
     let found = names.into_iter().filter_map(|name| {
         let found = difference(declared.each_ref().map(|declared| declared.get(name)))?;
@@ -33,20 +40,21 @@ fn differences(declared: &[Declarations; 3]) -> Vec<String> {
     found.collect()
 }
 
-fn difference(declared: [Option<&Vec<String>>; 3]) -> Option<String> {
+fn difference<const N: usize>(declared: [Option<&Vec<String>>; N]) -> Option<String> {
     if let Some(missing) = declared.iter().position(Option::is_none) {
         return Some(format!("not in {}", PLACES[missing]));
     }
     let lists = declared.map(|list| list.map_or(&[][..], Vec::as_slice));
     let longest = lists.map(<[String]>::len).into_iter().max()?;
     let parts = |index| lists.map(|list| list.get(index).map_or("nothing more", String::as_str));
-    let differing = (0..longest).map(parts).find(|[a, b, c]| a != b || b != c)?;
+    let alike = |parts: &[&str; N]| parts.iter().all(|part| *part == parts[0]);
+    let differing = (0..longest).map(parts).find(|parts| !alike(parts))?;
     let said = differing.iter().zip(PLACES);
     let said = said.map(|(part, place)| format!("{part} in {place}"));
     Some(said.collect::<Vec<_>>().join(" | "))
 }
 
-fn assert_the_same(declared: &[Declarations; 3]) {
+fn assert_the_same<const N: usize>(declared: &[Declarations; N]) {
     let found = differences(declared);
     assert!(found.is_empty(), "\n{}\n", found.join("\n"));
 }
@@ -121,12 +129,10 @@ fn export_constants(constants: &Constants) -> Constants {
     shared.into_iter().chain(figures).chain(refusals).collect()
 }
 
-fn bindings_constants() -> Constants {
-    let mut constants = rust_constants(&file("bindings/src/lib.rs"));
-    let refusals = rust_constants(&file("bindings/src/refusal.rs"));
-    let refusals = refusals.into_iter();
-    constants
-        .extend(refusals.map(|(name, number)| (name.replace("Refusal::", "REFUSED_"), number)));
+/// The constants of the boundary, and the faults with their numbers.
+fn with_faults(mut constants: Constants, faults: BTreeMap<String, [String; 2]>) -> Constants {
+    let faults = faults.into_iter();
+    constants.extend(faults.map(|(name, [number, _])| (format!("REFUSED_{name}"), number)));
     constants
 }
 
@@ -134,17 +140,46 @@ fn bindings_constants() -> Constants {
 fn constants() {
     let crates = crates_constants();
     let mut header = header_constants(&file("include/desk.h"));
-    let bindings = bindings_constants();
     // acceptance is no refusal, and has a name in the header only
     assert_eq!(header.remove("ACCEPTED").as_deref(), Some("0"));
+    // how much stack a call takes is measured, by c/threads_test.c, and no constant of the crates
+    let mut export = export_constants(&crates);
+    let measured = header.iter().filter(|(name, _)| name.starts_with("STACK"));
+    export.extend(measured.map(|(name, number)| (name.clone(), number.clone())));
+    let rust = rust_constants(&file("bindings/src/lib.rs"));
+    let rust = with_faults(rust, faults(&file("bindings/src/refusal.rs")));
+    let python = file("bindings/python/shaydhoqel.py");
+    let python = with_faults(python_constants(&python), faults(&python));
     let declared = [
-        numbers(&export_constants(&crates), &crates),
+        numbers(&export, &crates),
         numbers(&header, &header),
-        numbers(&bindings, &bindings),
+        numbers(&rust, &rust),
+        numbers(&python, &python),
     ];
     assert_the_same(&declared);
-    for (name, number) in [("RECORD", "94"), ("SENT", "1"), ("REFUSED_LENGTH", "201")] {
+    for (name, number) in [
+        ("RECORD", "94"),
+        ("OPENING", "18446744073709551615"),
+        ("SENT", "1"),
+        ("REFUSED_LENGTH", "201"),
+    ] {
         assert_eq!(declared[0][name], [number]);
+    }
+}
+
+/// What a number says stands in the header, as the comment before it, and where it is shown.
+#[test]
+fn words() {
+    let said = [
+        file("bindings/src/refusal.rs"),
+        file("bindings/python/shaydhoqel.py"),
+    ];
+    let [rust, python] = said.each_ref().map(|text| faults(text));
+    assert_eq!(rust, python);
+    let header = file("include/desk.h");
+    for (name, [number, words]) in rust {
+        let member = format!("/* {words} */\n    SHAYDHOQEL_REFUSED_{name} = {number}");
+        assert!(header.contains(&member), "{member}");
     }
 }
 
@@ -270,7 +305,24 @@ fn another_number_is_found() {
     for exchange in ["94 => 95", "SENT = 1 => SENT = 2", "SENT => SEND"] {
         let (part, other) = exchange.split_once(" => ").expect(exchange);
         let [one, another] = [header, &header.replace(part, other)].map(header_constants);
-        let declared = [&one, &another, &one].map(|constants| numbers(constants, constants));
-        assert!(!differences(&declared).is_empty(), "{exchange}");
+        for places in [[&one, &another, &one, &one], [&one, &one, &one, &another]] {
+            let declared = places.map(|constants| numbers(constants, constants));
+            assert!(!differences(&declared).is_empty(), "{exchange}");
+        }
     }
+}
+
+#[test]
+fn constants_of_python_and_tables_of_faults_are_read() {
+    let python = "RECORD = 1_094\nSENT = 1\nBuffer = Union[bytes]\nclass Fault(IntEnum):\n    LENGTH = 201, \"a, b\"\n";
+    let constants = python_constants(python);
+    let expected = [("RECORD", "1_094"), ("SENT", "1")]
+        .map(|(name, number)| (name.to_string(), number.to_string()));
+    assert_eq!(constants, Constants::from(expected));
+    let rust = "faults! {\n    Length = 201, \"a, b\";\n}";
+    let length = [("LENGTH".to_string(), ["201", "a, b"].map(str::to_string))];
+    assert_eq!(
+        [faults(python), faults(rust)],
+        [BTreeMap::from(length.clone()), BTreeMap::from(length)]
+    );
 }

@@ -2,7 +2,7 @@
 
 use crate::listing::positions;
 use crate::session::CELLS;
-use crate::{Cell, Currency, Refusal, Session};
+use crate::{Cell, Currency, Refusal, Rules, Session};
 
 type Answer = Result<(), Refusal>;
 
@@ -14,6 +14,16 @@ pub struct Opening {
 }
 
 impl Opening {
+    /// The opening that gives these rules, where their date is one.
+    pub fn of(rules: &Rules) -> Self {
+        let listed = (1..500).filter(|&entity| rules.roster[entity as usize]);
+        Opening {
+            date: rules.date,
+            currency: rules.currency,
+            entities: listed.collect(),
+        }
+    }
+
     pub fn open(&self) -> (Answer, Session) {
         Session::open(self.date, self.currency, &self.entities)
     }

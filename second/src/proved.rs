@@ -1,12 +1,15 @@
 //! The only file that knows the proved library.
 
-#![cfg(not(without_proved_library))]
+#![cfg(feature = "proved")]
 
 use crate::day::{Day, Opening, Outcome};
 use crate::session::CELLS;
-use crate::{Cell, Currency, Refusal, Rules, Written};
+use crate::{Cell, Currency, Refusal, Written};
 use desk::calls::{self, Spoken};
 use desk::{FIGURES, LISTING, POSITION, RECEIVED, SENT};
+
+/// Where the library says that a refused opening stands.
+pub const OPENING: usize = desk::OPENING as usize;
 
 /// What buffers hold before a call: no figure, number or text that could be right.
 const JUNK_BYTE: u8 = 0xa5;
@@ -18,14 +21,25 @@ const GUARD: usize = 2;
 /// Bytes before and behind a buffer that nobody lent: more than two records.
 const GUARD_BYTES: usize = 200;
 
-pub fn read(rules: &Rules, file: &[u8]) -> Result<usize, Refusal> {
-    let said = calls::read(
-        rules.date,
-        their_currency(rules.currency),
-        &rules.roster,
-        file,
-    );
-    counted(said)
+/// What the library must say of every job where the second program refuses the opening; nothing is written then.
+pub fn not_opened(opening: &Opening) -> Option<Refusal> {
+    let (answer, _) = opening.open();
+    let Refusal { number, .. } = answer.err()?;
+    let place = OPENING;
+    Some(Refusal { number, place })
+}
+
+/// A day of which this is all that is said: no file is answered for.
+pub fn day_not_opened(refusal: Refusal) -> Outcome {
+    Outcome {
+        opening: Err(refusal),
+        answers: Vec::new(),
+        cells: [Cell::default(); CELLS],
+    }
+}
+
+pub fn read(opening: &Opening, file: &[u8]) -> Result<usize, Refusal> {
+    counted(calls::read(&theirs(opening), file))
 }
 
 pub fn day(day: &Day) -> Outcome {
@@ -42,8 +56,15 @@ pub fn day(day: &Day) -> Outcome {
     assert_eq!(answers[lent..], [JUNK; GUARD], "written behind the answers");
     let behind = &figures[FIGURES * CELLS..];
     assert_eq!(behind, [JUNK as i64; GUARD], "written behind the figures");
+    let opening = answer(said.number, said.place);
+    if let Err(refusal) = opening {
+        let written = answers.iter().any(|&number| number != JUNK)
+            || figures.iter().any(|&figure| figure != JUNK as i64);
+        assert!(!written, "written, and yet the opening was refused");
+        return day_not_opened(refusal);
+    }
     Outcome {
-        opening: answer(said.number, said.place),
+        opening,
         answers: answers[..lent]
             .chunks_exact(2)
             .map(|said| answer(said[0], said[1]))
@@ -56,17 +77,19 @@ pub fn day(day: &Day) -> Outcome {
     }
 }
 
-/// The listing of the session at the end of a day.
-pub fn day_listing(day: &Day) -> Result<Vec<u8>, String> {
+/// The listing of the session at the end of a day, or the opening's refusal.
+pub fn day_listing(day: &Day) -> Result<Result<Vec<u8>, Refusal>, String> {
     let mut out = [JUNK_BYTE; LISTING];
-    let written = calls::day_listing(&theirs(&day.opening), day.ends(), day.bytes(), &mut out);
-    handed_over(&out, written)
+    let said = calls::day_listing(&theirs(&day.opening), day.ends(), day.bytes(), &mut out);
+    let answer = counted(said);
+    let text = handed_over(&out, answer.unwrap_or(0))?;
+    Ok(answer.map(|_| text))
 }
 
 pub fn listing(input: &[u8]) -> Result<Vec<u8>, String> {
     let mut out = [JUNK_BYTE; LISTING];
     let written = calls::listing(input, &mut out);
-    handed_over(&out, written)
+    handed_over(&out, place(written))
 }
 
 /// The call alone, for measuring: opens a session and extracts.
@@ -164,8 +187,8 @@ fn counted(said: Spoken) -> Result<usize, Refusal> {
 }
 
 /// The text in a buffer, or what is wrong with the way it was handed over.
-fn handed_over(out: &[u8; LISTING], written: u64) -> Result<Vec<u8>, String> {
-    let split = out.split_at_checked(place(written));
+fn handed_over(out: &[u8; LISTING], written: usize) -> Result<Vec<u8>, String> {
+    let split = out.split_at_checked(written);
     let (text, rest) = split.ok_or_else(|| format!("said that it wrote {written} bytes"))?;
     match rest.iter().position(|&byte| byte != JUNK_BYTE) {
         None => Ok(text.to_vec()),

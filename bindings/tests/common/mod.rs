@@ -1,6 +1,6 @@
 //! Case L, its opening, and lent buffers.
 
-use desk::{Currency, Opening, Refusal};
+use desk::{Currency, Fault, Opening, Place, Refusal};
 
 pub const L: &[u8] = include_bytes!("../../../samples/case-l.txt");
 
@@ -13,8 +13,9 @@ pub const OPENING: Opening = Opening {
 /// A character that no record may hold.
 const JUNK: u8 = 0xa5;
 
-pub fn refused<T>(number: u64, place: usize) -> Result<T, Refusal> {
-    Err(Refusal { number, place })
+pub fn refused<T>(fault: Fault, record: usize) -> Result<T, Refusal> {
+    let place = Place::Record(record);
+    Err(Refusal { fault, place })
 }
 
 /// A job lent so many bytes of junk: its answer, and the buffer afterwards.

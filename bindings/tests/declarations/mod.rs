@@ -57,9 +57,10 @@ fn number(expression: &str, constants: &Constants) -> Option<u64> {
         return Some(number(left, constants)? * number(right, constants)?);
     }
     let term = expression.split(" as ").next()?;
-    match constants.get(term) {
-        Some(defined) => number(defined, constants),
-        None => term.replace('_', "").parse().ok(),
+    match (constants.get(term), term) {
+        (Some(defined), _) => number(defined, constants),
+        (None, "UINT64_MAX" | "u64::MAX") => Some(u64::MAX),
+        (None, _) => term.replace('_', "").parse().ok(),
     }
 }
 
@@ -97,6 +98,28 @@ pub fn header_constants(text: &str) -> Constants {
     let members = members.filter_map(|member| member.split_once(" = "));
     let named = |(name, defined): (&str, &str)| (name.to_string(), defined.to_string());
     defines.chain(members).map(named).collect()
+}
+
+/// Of Python: what is set to a number outside of classes and functions.
+pub fn python_constants(text: &str) -> Constants {
+    let lines = text.lines().filter_map(|line| line.split_once(" = "));
+    let numbers =
+        lines.filter(|(_, defined)| defined.starts_with(|first: char| first.is_ascii_digit()));
+    let numbers = numbers.filter(|(name, _)| !name.starts_with(' '));
+    numbers
+        .map(|(name, defined)| (name.to_string(), defined.to_string()))
+        .collect()
+}
+
+/// Of Rust or Python, by the name in capitals: number and words of each line as `NAME = 17, "words"`.
+pub fn faults(text: &str) -> BTreeMap<String, [String; 2]> {
+    let lines = text.lines().filter_map(|line| {
+        let (name, defined) = line.strip_prefix("    ")?.split_once(" = ")?;
+        let [number, words, _] = around(defined, ", \"", "\"")?;
+        number.parse::<u64>().ok()?;
+        Some((name.to_uppercase(), [number, words].map(str::to_string)))
+    });
+    lines.collect()
 }
 
 // ---- Rattle and Rust

@@ -1,6 +1,8 @@
-// The counter: the desk's five jobs from a shell. Here is reading, calling and writing; what is answered and printed is proved in the crates below.
+// The counter: the desk's jobs from a shell. Here is reading, calling and writing; what is answered and printed is proved in the crates below.
 ghost use Prim.Native.Nat.{_^_, _<_};
 use desk::Session;
+use files::ending;
+use files::ending::Ended;
 use files::taking;
 use intake::roster;
 use intake::roster::Listed;
@@ -13,6 +15,8 @@ use typed::call::Word;
 use typed::words;
 
 mod jobs;
+mod say;
+mod share;
 
 // What the words of this call ask for.
 fn called() -> Asked {
@@ -39,31 +43,40 @@ fn usage() {
         \x20      counter extract DATE CURRENCY ROSTER ENTITY FILE OUT\n\
         \x20      counter build DATE CURRENCY ROSTER HEADER TRAY OUT\n\
         \x20      counter strip DATE CURRENCY ROSTER FILE OUT\n\
+        \x20      counter share DATE CURRENCY ROSTER FILE FOLDER\n\
+        \x20      counter explain NUMBER\n\
+        \x20      counter version\n\
         DATE is AAMMDD, CURRENCY pesos or dollars, ROSTER a file of entity numbers or the word all.\n",
     );
 }
 
 // The job in the session that this roster opens.
-fn open_for(job: Job, currency: Currency, path: &[u8]) {
+fn open_for(job: Job, currency: Currency, path: &[u8]) -> Ended {
     let mut entities = [0u64; Session::ROSTER];
     let roll = roster::gather(path, &mut entities);
     let listed = roll.listed;
     let Listed::Entities(count, _) = listed else {
-        return;
+        return Ended::Undone;
     };
-    jobs::run(job, Session::open(date(), currency, &entities[..count]));
+    let opened = Session::open(date(), currency, &entities[..count]);
+    jobs::run(job, opened, roll)
 }
 
-fn main() {
+// What is asked for, done.
+fn serve() -> Ended {
     let asked = called();
     let Asked::To(job, currency) = asked else {
         usage();
-        return;
+        return Ended::Undone;
     };
     let mut path = io::buffer();
     let length = taking::name(Word::ROSTER, &mut path);
     if length == 0 {
-        return;
+        return Ended::Undone;
     }
-    open_for(job, currency, &path[..length]);
+    open_for(job, currency, &path[..length])
+}
+
+fn main() {
+    ending::tell(Word::LAUNCHER, serve());
 }

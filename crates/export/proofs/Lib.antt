@@ -1,4 +1,5 @@
 pub mod Once
-pub mod Handed
+pub mod Opened
 pub mod Days
 pub mod FigureLaws
+pub mod Apart

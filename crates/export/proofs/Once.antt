@@ -2,24 +2,23 @@
 -- both buffers, and the figures fix every cell.
 use Prim.Native.Nat.{ℕ}
 use Prim.Native.Nat.{_+_, _*_, _<_}
+use mathlib.Core.Bool.{Bool}
 use mathlib.Core.List.{List}
-use mathlib.Core.Path.{_≡_, sym, ap, ap₂, _∙_}
+use mathlib.Core.Path.{_≡_, refl, sym, ap, ap₂, _∙_}
 use native.Mathlib.Omega.{arith}
 use lib.IntN.{ℤ, pos, natAbs}
 use lib.ListN.{length, getD}
 use lib.Seq.{ext-getD}
 use Rattle.paper.specs.declared.ledger.Cell.{Cell}
-use Rattle.paper.specs.declared.rules.Currency as rules
 use Rattle.paper.specs.Sessions.{zeroCell}
 use Rattle.paper.specs.declared.answer.Fault.{Fault}
 use Rattle.paper.specs.declared.answer.Fault.the-variants.{Length, Format, Amount, Additional, Counter, Date, Reserved, Account, Reference, Information, Currency, Roster, Room, Tray, Entity, Identifier}
-use Rattle.paper.specs.Answers.{numberOf}
+use Rattle.paper.specs.declared.answer.Answer.{Answer}
+use Rattle.paper.specs.declared.answer.Answer.the-variants.{Accepted, Refused}
+use Rattle.paper.specs.Answers.{said, numberOf}
 use Rattle.paper.proofs.Numbers.{own-number}
-use Rattle.reading.specs.declared.Reading.{Reading}
-use Rattle.reading.specs.declared.Reading.the-variants.{Accepted, Refused}
-use Rattle.reading.specs.Said.{readingSays, Carries}
 use Rattle.export.specs.declared.Spoken.{Spoken}
-use Rattle.export.specs.Spoken.{spokenOf}
+use Rattle.export.specs.Spoken.{Delivered, spokenOf}
 use Rattle.export.specs.Day.{Day, namedFigures, figureOf, figuresOf, dayOf}
 use Rattle.export.proofs.FigureLaws.{how-many, figures-length, figure-at}
 
@@ -41,17 +40,16 @@ not-zero Tray h = omega arith
 not-zero Entity h = omega arith
 not-zero Identifier h = omega arith
 
-pub spoken-once : (n : ℕ) (a b : Reading) → Carries n a → Carries n b → spokenOf n (readingSays a) ≡ spokenOf n (readingSays b) → a ≡ b
-unfolding spokenOf readingSays Carries
-spoken-once n (Accepted k) (Accepted l) p q h = ap Accepted (p ∙ sym q)
-spoken-once n (Accepted k) (Refused g l) p q h = absurd (not-zero g (ap (λ (s : Spoken). s .number) h))
-spoken-once n (Refused f k) (Accepted l) p q h = absurd (not-zero f (sym (ap (λ (s : Spoken). s .number) h)))
-spoken-once n (Refused f k) (Refused g l) p q h =
-    ap₂ Refused (own-number f g (ap (λ (s : Spoken). s .number) h)) (ap (λ (s : Spoken). s .place) h)
+pub spoken-once : (n : ℕ) (a b : Answer) → spokenOf n (said a) ≡ spokenOf n (said b) → a ≡ b
+unfolding spokenOf
+spoken-once n Accepted Accepted h = refl
+spoken-once n Accepted (Refused g l) h = absurd (not-zero g (ap (λ (s : Spoken). s .number) h))
+spoken-once n (Refused f k) Accepted h = absurd (not-zero f (sym (ap (λ (s : Spoken). s .number) h)))
+spoken-once n (Refused f k) (Refused g l) h = ap₂ Refused (own-number f g (ap (λ (s : Spoken). s .number) h)) (ap (λ (s : Spoken). s .place) h)
 
-pub day-once : (date : ℕ) (currency : rules.Currency) (entities ends files answers : List ℕ) (figures : List ℤ) (a b : Day)
-    → dayOf date currency entities ends files answers figures ≡ a → dayOf date currency entities ends files answers figures ≡ b → a ≡ b
-day-once date currency entities ends files answers figures a b h k = sym h ∙ k
+pub day-once : (date : ℕ) (dollars : Bool) (entities ends files : List ℕ) (lent : Day) (a b : Delivered Day)
+    → dayOf date dollars entities ends files lent ≡ a → dayOf date dollars entities ends files lent ≡ b → a ≡ b
+day-once date dollars entities ends files lent a b h k = sym h ∙ k
 
 cell-once : (a b : Cell) → ((f : ℕ) → f < length namedFigures → figureOf f a ≡ figureOf f b) → a ≡ b
 unfolding figureOf namedFigures

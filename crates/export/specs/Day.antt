@@ -1,24 +1,25 @@
 -- A whole day: an opening, and files presented in turn.
 use Prim.Native.Nat.{ℕ, _+_, _-_, _*_, _/_}
-use mathlib.Core.Bool.{cond}
+use mathlib.Core.Bool.{Bool, cond}
 use mathlib.Core.List.{List, [], _∷_, _++_, map, flatMap}
 use lib.Dec.{ltb}
 use lib.IntN.{ℤ, pos}
 use lib.ListN.{length, take, drop, getD, set}
-use Rattle.paper.specs.declared.rules.Currency.{Currency}
 use Rattle.paper.specs.declared.ledger.Cell.{Cell}
-use Rattle.paper.specs.Sessions.{Session, Reply, opening, presenting}
+use Rattle.paper.specs.Answers.{accepted}
+use Rattle.paper.specs.Buffers.{written}
+use Rattle.paper.specs.Listing.{listing}
+use Rattle.paper.specs.Sessions.{Session, Reply, presenting}
 use Rattle.export.specs.declared.Spoken.{Spoken}
-use Rattle.export.specs.Spoken.{spokenOf}
+use Rattle.export.specs.Spoken.{Delivered, spokenOf, deliveredOf, inSession}
 
 -- a session, and the buffer with the answers so far
 pub record Turns : Type 0 where
   pub session : Session
   pub answers : List ℕ
 
--- all that a day hands back: the opening's answer, the files' answers, and the figures of the cells
+-- what is lent to a day: a buffer for the files' answers, and one for the figures of the cells
 pub record Day : Type 0 where
-  pub opened : Spoken
   pub answers : List ℕ
   pub figures : List ℤ
 
@@ -54,15 +55,22 @@ figuresOf cells = flatMap (λ (figure : Cell → ℤ). map figure cells) namedFi
 unfoldable pub figuresWritten : List ℤ → List ℤ → List ℤ
 figuresWritten new buffer = take (length buffer) new ++ drop (length new) buffer
 
+-- all files in turn, from this session on
+unfoldable pub turnsOf : List ℕ → List ℕ → Session → List ℕ → Turns
+turnsOf ends files session answers = turnsFrom 0 0 ends files record { session = session; answers = answers }
+
 -- what is handed back after the last turn
-unfoldable pub dayClosed : Spoken → Turns → List ℤ → Day
-dayClosed opened t figures = record { opened = opened; answers = t .answers; figures = figuresWritten (figuresOf (t .session .cells)) figures }
+unfoldable pub dayClosed : Turns → List ℤ → Day
+dayClosed t figures = record { answers = t .answers; figures = figuresWritten (figuresOf (t .session .cells)) figures }
 
--- of an opening, the ends of the files, their bytes, and what was in the buffer for the answers
-unfoldable pub turnsOf : ℕ → Currency → List ℕ → List ℕ → List ℕ → List ℕ → Turns
-turnsOf date currency entities ends files answers = turnsFrom 0 0 ends files record { session = opening date currency entities .session; answers = answers }
+-- of an opening, the ends of the files, their bytes, and what was lent
+unfoldable pub dayOf : ℕ → Bool → List ℕ → List ℕ → List ℕ → Day → Delivered Day
+dayOf date dollars entities ends files lent =
+    inSession date dollars entities lent
+    (λ (session : Session). record { spoken = spokenOf 0 accepted; lent = dayClosed (turnsOf ends files session (lent .answers)) (lent .figures) })
 
--- the same with what was in the buffer for the figures
-unfoldable pub dayOf : ℕ → Currency → List ℕ → List ℕ → List ℕ → List ℕ → List ℤ → Day
-dayOf date currency entities ends files answers figures =
-    dayClosed (spokenOf 0 (opening date currency entities .answer)) (turnsOf date currency entities ends files answers) figures
+-- the same with a buffer lent for the listing of the session at the end
+unfoldable pub dayListed : ℕ → Bool → List ℕ → List ℕ → List ℕ → List ℕ → Delivered (List ℕ)
+dayListed date dollars entities ends files buffer =
+    inSession date dollars entities buffer
+    (λ (session : Session). deliveredOf (written accepted (listing (turnsOf ends files session [] .session .cells)) buffer))

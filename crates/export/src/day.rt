@@ -1,20 +1,19 @@
 // A whole day: an opening, and files presented in turn.
 ghost use mathlib.Core.Path.{_≡_};
-ghost use mathlib.Core.List.{[]};
-ghost use Rattle.paper.specs.Listing.{currencyIf, listing};
-ghost use Rattle.listing.specs.Room.{Written};
 ghost use Rattle.desk.specs.Standing.{standing};
 ghost use Rattle.desk.specs.Calls.{Reachable};
-ghost use Rattle.export.specs.Day.{between, answerWritten, turnsFrom, turnsOf, dayOf};
+ghost use Rattle.export.specs.Day.{between, answerWritten, turnsOf, dayOf, dayListed};
 use crate::Spoken;
 use crate::currency;
 use crate::figures::hand_figures;
 use crate::least;
+use crate::not_opened;
 use crate::speak;
 use desk::Session;
 use listing::Listing;
+use paper::answer::Answer;
 
-// Opening and presenting say no number of records.
+// A day and the presenting of a file say no number of records.
 const NO_RECORDS: usize = 0;
 
 // The bytes from the end of the file before up to an end, as far as there are any.
@@ -39,7 +38,7 @@ fn hand_answer(i: usize, spoken: Spoken, answers: &mut [u64])
 // The files in turn, each answer handed over.
 fn present_all(session: Session, ends: &[u64], files: &[u8], answers: &mut [u64]) -> Session
     requires { ⌜ Reachable session ⌝ }
-    ensures { λ r. ⌜ (turnsFrom 0 0 (now (ends .entry)) (now (files .entry)) record { session = standing session; answers = now (answers .entry) }
+    ensures { λ r. ⌜ (turnsOf (now (ends .entry)) (now (files .entry)) (standing session) (now (answers .entry))
         ≡ record { session = standing r; answers = now (answers .exit) }) × Reachable r ⌝ }
 {
     let mut after = session;
@@ -57,8 +56,8 @@ fn present_all(session: Session, ends: &[u64], files: &[u8], answers: &mut [u64]
     after
 }
 
-// File i is the bytes of `files` from the end of the one before up to ends[i]. The opening's answer comes back, the others stand in
-// `answers`, two numbers each, and the figures of the cells at the end in `figures`, at the indices of `Figure`.
+// File i is the bytes of `files` from the end of the one before up to ends[i]. The opening's answer comes back; where it is accepted, the
+// others stand in `answers`, two numbers each, and the figures of the cells at the end in `figures`, at the indices of `Figure`.
 #[no_mangle]
 pub extern "C" fn shaydhoqel_day(
     date: u64,
@@ -69,18 +68,22 @@ pub extern "C" fn shaydhoqel_day(
     answers: &mut [u64],
     figures: &mut [i64],
 ) -> Spoken
-    ensures { λ r. ⌜ dayOf date (currencyIf dollars) (now (entities .entry)) (now (ends .entry)) (now (files .entry)) (now (answers .entry)) (now (figures .entry))
-        ≡ record { opened = r; answers = now (answers .exit); figures = now (figures .exit) } ⌝ }
+    ensures { λ r. ⌜ dayOf date dollars (now (entities .entry)) (now (ends .entry)) (now (files .entry))
+        record { answers = now (answers .entry); figures = now (figures .entry) }
+        ≡ record { spoken = r; lent = record { answers = now (answers .exit); figures = now (figures .exit) } } ⌝ }
 {
     let opened = Session::open(date, currency(dollars), entities);
+    let answer = opened.answer;
+    if let Answer::Refused(fault, _) = answer {
+        return not_opened(fault);
+    }
     let session = opened.session;
     let closed = present_all(session, ends, files, answers);
     hand_figures(closed.cells(), figures);
-    let answer = opened.answer;
-    speak(NO_RECORDS, answer)
+    speak(NO_RECORDS, Answer::Accepted)
 }
 
-// The listing of the session at the end of such a day, whatever the last answer was, and how many bytes that is.
+// The listing of the session at the end of such a day, whatever the last answer was: 0 and the number of bytes, or the opening's refusal.
 #[no_mangle]
 pub extern "C" fn shaydhoqel_day_listing(
     date: u64,
@@ -89,13 +92,18 @@ pub extern "C" fn shaydhoqel_day_listing(
     ends: &[u64],
     files: &[u8],
     out: &mut [u8; Listing::ROOM],
-) -> u64
-    ensures { λ r. ⌜ Written (listing (turnsOf date (currencyIf dollars) (now (entities .entry)) (now (ends .entry)) (now (files .entry)) [] .session .cells))
-        r (now (out .entry)) (now (out .exit)) ⌝ }
+) -> Spoken
+    ensures { λ r. ⌜ dayListed date dollars (now (entities .entry)) (now (ends .entry)) (now (files .entry)) (now (out .entry))
+        ≡ record { spoken = r; lent = now (out .exit) } ⌝ }
 {
     let opened = Session::open(date, currency(dollars), entities);
+    let answer = opened.answer;
+    if let Answer::Refused(fault, _) = answer {
+        return not_opened(fault);
+    }
     let session = opened.session;
     let mut unasked: [u64; 0] = [];
     let closed = present_all(session, ends, files, &mut unasked);
-    listing::print(closed, out) as u64
+    let bytes = listing::print(closed, out);
+    speak(bytes, Answer::Accepted)
 }

@@ -1,15 +1,15 @@
 // What is addressed to one entity.
 ghost use mathlib.Core.Path.{_≡_};
-ghost use Rattle.paper.specs.Listing.{currencyIf};
-ghost use Rattle.paper.specs.Sessions.{opening};
 ghost use Rattle.paper.specs.Buffers.{extracting};
-ghost use Rattle.export.specs.Spoken.{deliveredOf};
+ghost use Rattle.export.specs.Spoken.{deliveredOf, inSession};
 use crate::Spoken;
 use crate::currency;
+use crate::not_opened;
 use crate::speak_output;
 use desk::Session;
+use paper::answer::Answer;
 
-// An extract in a session opened with this date, currency and list of entities. A refused opening gives the session of 000101, pesos, nobody.
+// An extract in a session opened with this date, currency and list of entities.
 #[no_mangle]
 pub extern "C" fn shaydhoqel_extract(
     date: u64,
@@ -19,10 +19,15 @@ pub extern "C" fn shaydhoqel_extract(
     file: &[u8],
     out: &mut [u8],
 ) -> Spoken
-    ensures { λ r. ⌜ deliveredOf (extracting (opening date (currencyIf dollars) (now (entities .entry)) .session .rules) entity (now (file .entry)) (now (out .entry)))
-        ≡ record { spoken = r; buffer = now (out .exit) } ⌝ }
+    ensures { λ r. ⌜ inSession date dollars (now (entities .entry)) (now (out .entry))
+        (λ session. deliveredOf (extracting (session .rules) entity (now (file .entry)) (now (out .entry))))
+        ≡ record { spoken = r; lent = now (out .exit) } ⌝ }
 {
     let opened = Session::open(date, currency(dollars), entities);
+    let answer = opened.answer;
+    if let Answer::Refused(fault, _) = answer {
+        return not_opened(fault);
+    }
     let session = opened.session;
     let output = session.extract(entity, file, out);
     speak_output(output)

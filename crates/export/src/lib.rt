@@ -1,21 +1,18 @@
 // The library for programs in Rust and C: functions on numbers and byte slices.
 ghost use mathlib.Core.Path.{_≡_};
 ghost use mathlib.Core.List.{List};
-ghost use Prim.Native.Nat.{ℕ, _/_, min};
-ghost use lib.ListN.{length};
-ghost use Rattle.paper.specs.Answers.{said};
-ghost use Rattle.paper.specs.Reading.{reading};
+ghost use Prim.Native.Nat.{ℕ, min};
+ghost use Rattle.paper.specs.Answers.{said, numberOf};
 ghost use Rattle.paper.specs.Buffers.{told};
 ghost use Rattle.paper.specs.Listing.{currencyIf, positionsOf};
 ghost use Rattle.listing.specs.Room.{Written};
-ghost use Rattle.export.specs.Spoken.{spokenOf, deliveredOf};
+ghost use Rattle.export.specs.Spoken.{spokenOf, deliveredOf, notOpened, readOf};
 use desk::Session;
 use listing::Listing;
 use paper::answer::Answer;
+use paper::answer::Fault;
 use paper::answer::Output;
 use paper::rules::Currency;
-use paper::rules::Terms;
-use reading::Reading;
 
 pub mod day;
 pub mod extract;
@@ -27,6 +24,11 @@ pub mod tray;
 pub struct Spoken {
     pub number: u64,
     pub place: u64,
+}
+
+impl Spoken {
+    // The place of a refused opening: no record stands there.
+    pub const OPENING: u64 = 18_446_744_073_709_551_615;
 }
 
 // Figure f of entity e stands at index f * 500 + e: a later figure is appended, and no index moves.
@@ -76,9 +78,19 @@ fn speak(records: usize, answer: Answer) -> Spoken
     }
 }
 
+// A refused opening, told apart from what a job answers in the session of nobody.
+fn not_opened(fault: Fault) -> Spoken
+    ensures { λ r. ⌜ r ≡ notOpened (numberOf fault) ⌝ }
+{
+    Spoken {
+        number: fault.number(),
+        place: Spoken::OPENING,
+    }
+}
+
 // 0 and the bytes written, or the refusal number and its place.
 fn speak_output(output: Output) -> Spoken
-    ensures { λ r. ⌜ ((buffer : List ℕ) → deliveredOf (told output buffer) ≡ record { spoken = r; buffer = buffer }) ⌝ }
+    ensures { λ r. ⌜ ((buffer : List ℕ) → deliveredOf (told output buffer) ≡ record { spoken = r; lent = buffer }) ⌝ }
 {
     match output {
         Output::Accepted(bytes) => speak(bytes, Answer::Accepted),
@@ -86,24 +98,19 @@ fn speak_output(output: Output) -> Spoken
     }
 }
 
-// A file read in a session of this date, currency and roster. The caller lends 500 marks, each 0 or 1, and the file with its length.
+// A file read in a session opened with this date, currency and list of entities: 0 and the number of records, or the refusal.
 #[no_mangle]
-pub extern "C" fn shaydhoqel_read(
-    date: u64,
-    dollars: bool,
-    roster: &[bool; Session::ROSTER],
-    file: &[u8],
-) -> Spoken
-    ensures { λ r. ⌜ r ≡ spokenOf (length (now (file .entry)) / 94) (reading record { date = date; currency = currencyIf dollars; roster = now (roster .entry) } (now (file .entry))) ⌝ }
+pub extern "C" fn shaydhoqel_read(date: u64, dollars: bool, entities: &[u64], file: &[u8]) -> Spoken
+    ensures { λ r. ⌜ readOf date dollars (now (entities .entry)) (now (file .entry)) ≡ record { spoken = r; lent = tt } ⌝ }
 {
-    let terms = Terms {
-        date: date,
-        currency: currency(dollars),
-    };
-    match reading::read(terms, roster, file) {
-        Reading::Accepted(records) => speak(records, Answer::Accepted),
-        Reading::Refused(fault, place) => speak(0, Answer::Refused(fault, place)),
+    let opened = Session::open(date, currency(dollars), entities);
+    let answer = opened.answer;
+    if let Answer::Refused(fault, _) = answer {
+        return not_opened(fault);
     }
+    let session = opened.session;
+    let read = session.read(file);
+    speak(file.len() / Session::RECORD, read)
 }
 
 // What the program `positions` prints for this input, and how many bytes that is.

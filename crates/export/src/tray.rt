@@ -1,15 +1,15 @@
 // Building from a tray, and stripping back to one.
 ghost use mathlib.Core.Path.{_≡_};
-ghost use Rattle.paper.specs.Listing.{currencyIf};
-ghost use Rattle.paper.specs.Sessions.{opening};
 ghost use Rattle.paper.specs.Buffers.{building, stripping};
-ghost use Rattle.export.specs.Spoken.{deliveredOf};
+ghost use Rattle.export.specs.Spoken.{deliveredOf, inSession};
 use crate::Spoken;
 use crate::currency;
+use crate::not_opened;
 use crate::speak_output;
 use desk::Session;
+use paper::answer::Answer;
 
-// A file built in a session opened with this date, currency and list of entities. A refused opening gives the session of 000101, pesos, nobody.
+// A file built in a session opened with this date, currency and list of entities.
 #[no_mangle]
 pub extern "C" fn shaydhoqel_build(
     date: u64,
@@ -19,10 +19,15 @@ pub extern "C" fn shaydhoqel_build(
     tray: &[u8],
     out: &mut [u8],
 ) -> Spoken
-    ensures { λ r. ⌜ deliveredOf (building (opening date (currencyIf dollars) (now (entities .entry)) .session .rules) (now (header .entry)) (now (tray .entry)) (now (out .entry)))
-        ≡ record { spoken = r; buffer = now (out .exit) } ⌝ }
+    ensures { λ r. ⌜ inSession date dollars (now (entities .entry)) (now (out .entry))
+        (λ session. deliveredOf (building (session .rules) (now (header .entry)) (now (tray .entry)) (now (out .entry))))
+        ≡ record { spoken = r; lent = now (out .exit) } ⌝ }
 {
     let opened = Session::open(date, currency(dollars), entities);
+    let answer = opened.answer;
+    if let Answer::Refused(fault, _) = answer {
+        return not_opened(fault);
+    }
     let session = opened.session;
     let output = session.build(header, tray, out);
     speak_output(output)
@@ -37,10 +42,15 @@ pub extern "C" fn shaydhoqel_strip(
     file: &[u8],
     out: &mut [u8],
 ) -> Spoken
-    ensures { λ r. ⌜ deliveredOf (stripping (opening date (currencyIf dollars) (now (entities .entry)) .session .rules) (now (file .entry)) (now (out .entry)))
-        ≡ record { spoken = r; buffer = now (out .exit) } ⌝ }
+    ensures { λ r. ⌜ inSession date dollars (now (entities .entry)) (now (out .entry))
+        (λ session. deliveredOf (stripping (session .rules) (now (file .entry)) (now (out .entry))))
+        ≡ record { spoken = r; lent = now (out .exit) } ⌝ }
 {
     let opened = Session::open(date, currency(dollars), entities);
+    let answer = opened.answer;
+    if let Answer::Refused(fault, _) = answer {
+        return not_opened(fault);
+    }
     let session = opened.session;
     let output = session.strip(file, out);
     speak_output(output)

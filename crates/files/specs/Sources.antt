@@ -45,7 +45,7 @@ meterOf source = source .meter
 
 -- one that has handed over so many bytes is not read on
 abbrev pub mostHanded : ℕ
-mostHanded = 2 ^ 63
+mostHanded = 2 ^ 30
 
 -- a text that has, at the place watched, what was watched there; whichever place that is
 abbrev pub Watched : Watch → List ℕ → Type 0

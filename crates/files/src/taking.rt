@@ -8,13 +8,18 @@ ghost use lib.Signed.{nonNeg};
 ghost use Rattle.io.specs.Counts.{Counts};
 ghost use Rattle.files.specs.Counted.{Counted};
 ghost use Rattle.files.specs.Sources.{handedBy, hasEnded, watchOf, mostHanded, nameOf, nameIn, JustOpened, AsOpened, GoneOn, AsFilled, AsFile};
+use crate::saying;
+use libc::EINTR;
+use libc::ENAMETOOLONG;
 use libc::ESPIPE;
 use libc::SEEK_CUR;
-use libc::STDERR_FILENO;
 use watch::Watch;
 
-// How much was read; or reading failed, and that was said.
-enum Taken {
+// How often a reading that a signal came before is begun again, so that it ends.
+pub(crate) const TRIES: usize = 1000000;
+
+// How much was read; or reading failed.
+pub enum Taken {
     Bytes(usize),
     Failed,
 }
@@ -53,11 +58,6 @@ pub enum Filled {
     Failed(Failure),
 }
 
-fn say_endless(path: &[u8]) {
-    io::write_all(STDERR_FILENO, path);
-    io::write_all(STDERR_FILENO, b": has no end\n");
-}
-
 // A pipe has no places to read at.
 fn has_places(fd: i32) -> bool {
     let mut none = [0; 1];
@@ -74,9 +74,7 @@ fn meter(fd: i32, path: &[u8]) -> i32 {
     let kept = b"/proc/self/mem";
     let meter = os::open_read(kept);
     if meter < 0 {
-        io::write_all(STDERR_FILENO, path);
-        io::write_all(STDERR_FILENO, b": no place is kept for it, ");
-        os::fail(kept);
+        saying::failed_for(path, kept);
     }
     meter
 }
@@ -118,14 +116,35 @@ fn read_at(fd: i32, meter: i32, place: u64, buf: &mut [u8]) -> isize
     got
 }
 
+// A signal came before the first byte.
+pub(crate) fn interrupted(got: isize) -> bool {
+    got < 0 && os::errno() == EINTR
+}
+
+// The same, begun again where a signal came before its first byte.
+fn read_again(fd: i32, meter: i32, place: u64, buf: &mut [u8]) -> isize
+    requires { ⌜ place < mostHanded ⌝ }
+{
+    let mut got = read_at(fd, meter, place, buf);
+    let mut tries: usize = 0;
+    while tries < TRIES {
+        tries += 1;
+        if !interrupted(got) {
+            break;
+        }
+        got = read_at(fd, meter, place, buf);
+    }
+    got
+}
+
 // What one reading at a place brings; nothing at the end.
 fn read_once(fd: i32, meter: i32, place: u64, path: &[u8], buf: &mut [u8]) -> Taken
     requires { ⌜ place < mostHanded ⌝ }
     ensures { λ r. ⌜ Counted r (length (now (buf .exit))) ⌝ }
 {
-    let got = read_at(fd, meter, place, buf);
+    let got = read_again(fd, meter, place, buf);
     if got < 0 {
-        os::fail(path);
+        saying::failed(path);
         return Taken::Failed;
     }
     Taken::Bytes(io::count(got, buf))
@@ -151,8 +170,8 @@ fn read_into(fd: i32, meter: i32, from: u64, path: &[u8], buf: &mut [u8]) -> Tak
 }
 
 impl Source {
-    // A source that has handed over so much is not read on: no file is so long.
-    pub const MOST: u64 = 1 << 63;
+    // A source that has handed over so much is not read on: it is taken to have no end.
+    pub const MOST: u64 = 1 << 30;
     // Any place would do: no contract says which it is.
     const WATCHED: u64 = 0;
 
@@ -163,7 +182,7 @@ impl Source {
         let name = Watch::at(Source::WATCHED).on(path);
         let fd = os::open_read(path);
         if fd < 0 {
-            os::fail(path);
+            saying::failed(path);
             return Readable::Failed(Failure { name });
         }
         let meter = meter(fd, path);
@@ -224,7 +243,10 @@ impl Source {
         ensures { λ r. ⌜ AsFilled self (now (buf .exit)) r ⌝ }
     {
         if buf.len() as u64 >= self.left() {
-            say_endless(path);
+            saying::wrong(
+                path,
+                b"some 1 GiB were read, and it is taken to have no end",
+            );
             return Filled::Failed(self.failed());
         }
         let taken = read_into(self.fd, self.meter, self.total, path, buf);
@@ -266,9 +288,21 @@ pub fn name(word: usize, path: &mut [u8]) -> usize
 {
     let length = os::arg(word, path);
     if length == 0 {
-        io::write_all(STDERR_FILENO, b"the name of a file is empty or too long\n");
+        say_nameless(path);
     }
     length
+}
+
+// Of a name that is too long, the buffer holds its beginning.
+fn say_nameless(path: &[u8]) {
+    if os::errno() == ENAMETOOLONG {
+        saying::wrong(
+            path,
+            b"the name of a file, of which this is the beginning, is too long",
+        );
+        return;
+    }
+    saying::wrong(b"''", b"the name of a file is empty");
 }
 
 // As much as the buffer takes; then the source is closed.
@@ -284,7 +318,7 @@ fn at_once(source: Source, path: &[u8], buf: &mut [u8]) -> Filled
 }
 
 // The file of that name, as much of it as the buffer takes.
-fn file_named(path: &[u8], buf: &mut [u8]) -> Filled
+pub fn file_named(path: &[u8], buf: &mut [u8]) -> Filled
     ensures { λ r. ⌜ AsFile (now (buf .exit)) r ⌝ }
 {
     match Source::open(path) {

@@ -1,15 +1,17 @@
 // Where a job's bytes go. They are written beside OUT first and take its place whole, so that no failure leaves half a file under its name.
-ghost use Prim.Native.Nat.{_≤_};
+ghost use Prim.Native.Nat.{_+_, _≤_};
 ghost use lib.ListN.{length};
 ghost use Rattle.handing.specs.Handed.{AllOf};
-use files::taking;
+use files::saying;
 use libc::ENOENT;
 use libc::PATH_MAX;
 use libc::SEEK_END;
-use libc::STDERR_FILENO;
+use modes::Mode;
 
-// A path, and what is put behind it while its file is being written.
-const PART: usize = PATH_MAX + 7;
+pub mod modes;
+
+// A path, and the name of a part in its folder.
+const PART: usize = 2 * PATH_MAX;
 
 // So many bytes stand under the name; or they do not, and that was said.
 pub enum Handed {
@@ -17,8 +19,11 @@ pub enum Handed {
     Failed,
 }
 
-fn is_link(path: [u8; PATH_MAX]) -> bool {
-    let mut ended = path;
+fn is_link(path: &[u8]) -> bool
+    requires { ⌜ length (now path) ≤ 4096 ⌝ }
+{
+    let mut ended = io::buffer();
+    writing::text(&mut ended, 0, path);
     ended[PATH_MAX - 1] = 0;
     let mut target = [0u8; 1];
     libc::readlink(&ended, &mut target) >= 0
@@ -33,11 +38,6 @@ fn has_length(fd: i32) -> bool {
     libc::ftruncate(fd, length) == 0
 }
 
-fn say_not_plain(path: &[u8]) {
-    io::write_all(STDERR_FILENO, path);
-    io::write_all(STDERR_FILENO, b": not a plain file\n");
-}
-
 // Whether a new file can take its place: there is none, or a plain one.
 fn is_plain(path: &[u8]) -> bool {
     let fd = os::open_update(path);
@@ -45,81 +45,110 @@ fn is_plain(path: &[u8]) -> bool {
         if os::errno() == ENOENT {
             return true;
         }
-        os::fail(path);
+        saying::failed(path);
         return false;
     }
     let plain = has_length(fd);
     libc::close(fd);
     if !plain {
-        say_not_plain(path);
+        saying::wrong(path, b"not a plain file");
     }
     plain
 }
 
-// A new file, for its owner alone. Its name ends in six letters, which the system chooses.
-fn write_new(name: &mut [u8], bytes: &[u8]) -> bool {
-    let fd = os::create_temp(name);
-    if fd < 0 {
-        os::fail(name);
+// Whether a new file can take the place of what the path names. A link would stay, and what it leads to would not.
+fn replaceable(path: &[u8]) -> bool
+    requires { ⌜ length (now path) ≤ 4096 ⌝ }
+{
+    if is_link(path) {
+        saying::wrong(path, b"not a plain file");
         return false;
     }
-    let written = io::write_all(fd, bytes);
-    let kept = libc::fsync(fd) == 0;
-    let whole = written & kept;
+    is_plain(path)
+}
+
+fn has_mode(fd: i32, mode: Mode) -> bool {
+    match mode {
+        Mode::Old(bits) => libc::fchmod(fd, bits) == 0,
+        Mode::New => true,
+    }
+}
+
+// The bytes, in a new file beside the path.
+fn write_part(part: &mut [u8], path: &[u8], mode: Mode, bytes: &[u8]) -> bool {
+    // nobody has a file of that name, or this fails
+    let fd = os::create(part);
+    if fd < 0 {
+        saying::failed(path);
+        return false;
+    }
+    let whole = io::write_all(fd, bytes) && has_mode(fd, mode) && libc::fsync(fd) == 0;
     if !whole {
-        os::fail(name);
-        os::unlink(name);
+        saying::failed(path);
+        os::unlink(part);
     }
     libc::close(fd);
     whole
 }
 
-fn replace(part: &mut [u8], path: &[u8], bytes: &[u8]) -> bool {
-    if !write_new(part, bytes) {
+fn replace(part: &mut [u8], path: &[u8], mode: Mode, bytes: &[u8]) -> bool {
+    if !write_part(part, path, mode, bytes) {
         return false;
     }
     if os::rename(part, path) == 0 {
         return true;
     }
-    os::fail(path);
+    saying::failed(path);
     os::unlink(part);
     false
 }
 
+// Where the last part of a path begins: its folder stands before.
+fn folder_end(path: &[u8]) -> usize
+    ensures { λ r. ⌜ r ≤ length (now (path .entry)) ⌝ }
+{
+    let mut end: usize = 0;
+    let mut i: usize = 0;
+    while i < path.len() {
+        let b = path[i];
+        i += 1;
+        if b == b'/' {
+            end = i;
+        }
+    }
+    end
+}
+
+// A name in the folder of the path. The launcher chose it, and finds the file by it where a signal ends the program.
+fn name_part(part: &mut [u8], path: &[u8], name: &[u8]) -> usize
+    requires { ⌜ length (now path) + length (now name) ≤ length (now part) ⌝ }
+    ensures { λ r. ⌜ r ≤ length (now (part .exit)) ⌝ }
+{
+    let folder = folder_end(path);
+    let past_folder = writing::text(part, 0, &path[..folder]);
+    writing::text(part, past_folder, name)
+}
+
 // A new file beside the path, with these bytes; then it takes the place of what the path names.
-fn write_beside(path: &[u8], bytes: &[u8]) -> bool
+fn write_beside(path: &[u8], name: &[u8], mode: Mode, bytes: &[u8]) -> bool
     requires { ⌜ length (now path) ≤ 4096 ⌝ }
+    requires { ⌜ length (now name) ≤ 4096 ⌝ }
 {
     let mut part = [0u8; PART];
-    let at = writing::text(&mut part, 0, path);
-    let end = writing::text(&mut part, at, b".XXXXXX");
-    replace(&mut part[..end], path, bytes)
+    let end = name_part(&mut part, path, name);
+    replace(&mut part[..end], path, mode, bytes)
 }
 
-// Whether a new file can take the place of what the path names. A link would stay, and what it leads to would not.
-fn replaceable(path: [u8; PATH_MAX], length: usize) -> bool
-    requires { ⌜ length ≤ 4096 ⌝ }
-{
-    if is_link(path) {
-        say_not_plain(&path[..length]);
-        return false;
-    }
-    is_plain(&path[..length])
-}
-
-// The bytes under the name that a word of the call gives.
-pub fn put(word: usize, bytes: &[u8]) -> Handed
+// The bytes under that path. While they are written they stand beside it, under the other name.
+pub fn put(path: &[u8], name: &[u8], mode: Mode, bytes: &[u8]) -> Handed
+    requires { ⌜ length (now path) ≤ 4096 ⌝ }
+    requires { ⌜ length (now name) ≤ 4096 ⌝ }
     ensures { λ r. ⌜ AllOf (now (bytes .entry)) r ⌝ }
 {
-    let mut path = io::buffer();
-    let length = taking::name(word, &mut path);
-    if length == 0 {
+    if !replaceable(path) {
         return Handed::Failed;
     }
-    if !replaceable(path, length) {
-        return Handed::Failed;
-    }
-    if !write_beside(&path[..length], bytes) {
+    if !write_beside(path, name, mode, bytes) {
         return Handed::Failed;
     }
     Handed::Whole(bytes.len())

@@ -4,20 +4,28 @@ use native.Mathlib.Numerals.{add-one}
 use native.Mathlib.Omega.{arith}
 use mathlib.Core.Bool.{true, false}
 use mathlib.Core.List.{List, [], _∷_, _++_}
+use mathlib.Core.Logic.{_↔_}
 use mathlib.Core.Path.{_≡_, refl, sym, ap, _∙_, subst}
 use lib.ListN.{length, getD, take, set, length-append}
 use lib.Seq.{take-suc, take-all, length-take-le}
+use Rattle.paper.specs.declared.rules.Currency.{Currency}
+use Rattle.paper.specs.Answers.{refused}
 use Rattle.paper.specs.Buffers.{over}
+use Rattle.paper.specs.Dates.{isDate}
 use Rattle.paper.specs.Fields.{is}
 use Rattle.paper.specs.Listing.{numbersTo}
+use Rattle.paper.specs.Sessions.{opening}
 use Rattle.watch.specs.declared.Watch.{Watch}
 use Rattle.watch.specs.Watches.{watchOn}
 use Rattle.typed.specs.declared.roster.Roster.{Roster}
 use Rattle.typed.specs.declared.roster.Text.{Text}
-use Rattle.typed.specs.Rosters.{begun, readOn}
+use Rattle.typed.specs.declared.roster.Which.the-variants.{Word}
+use Rattle.typed.specs.declared.roster.Wrong.{Wrong}
+use Rattle.typed.specs.Rosters.{ended, wordsFrom, noWord, wrongAmong, wrongTyped, toldIn, begun, closed, readOn, wrongIn}
 use Rattle.typed.specs.Texts.{rosterIn, watchIn, textBegun, textOn}
 use Rattle.typed.proofs.Rosters.{pieces}
 use Rattle.typed.proofs.Steps.{over-snoc}
+use Rattle.typed.proofs.WrongWords.{wrong-typed, which-inside, refused-exactly}
 use Rattle.files.specs.declared.taking.Source.{Source}
 use Rattle.files.specs.declared.taking.Failure.{Failure}
 use Rattle.files.specs.declared.taking.Filled.{Filled}
@@ -29,7 +37,7 @@ use Rattle.intake.specs.declared.roster.Basis.the-variants.{Everyone}
 use Rattle.intake.specs.declared.roster.Piece.{Piece}
 use Rattle.intake.specs.declared.roster.Listed.{Listed}
 use Rattle.intake.specs.declared.roster.Listed.the-variants.{Entities, Failed}
-use Rattle.intake.specs.Gathering.{WentOn, PieceRead, WholeRead, ToEnd, entitiesOf, listedBy, laidBy, Gathers}
+use Rattle.intake.specs.Gathering.{WentOn, PieceRead, WholeRead, ReadToEnd, ToEnd, entitiesOf, wrongOf, listedBy, laidBy, noText, Gathers}
 
 -- ---- all entities
 
@@ -60,6 +68,8 @@ nothing-read path source text j e =
       read = ap rosterIn e;
       watch = ap watchIn e ∙ sym (j .watch);
       given = handed-none path source j;
+      counted = j .total;
+      below = omega arith;
     }
 
 -- with the bytes that were handed over into the buffer
@@ -67,12 +77,15 @@ further : {path : List ℕ} {source after : Source} {text now : Text} (buffer : 
     → now ≡ textOn text (take n buffer) → WholeRead path after now
 unfolding textOn
 further {path} {source} {after} buffer n r f e =
+    let size = length-take-le n buffer (f .fits) in
     record {
       name = same-name path (f .name) (r .name);
       bytes = r .bytes ++ take n buffer;
       read = ap rosterIn e ∙ ap (λ (x : Roster). readOn x (take n buffer)) (r .read) ∙ pieces begun (r .bytes) (take n buffer);
       watch = ap watchIn e ∙ ap (λ (w : Watch). watchOn w (take n buffer)) (r .watch) ∙ sym (f .watch);
       given = handed-on source after (r .bytes) buffer n (r .given) f;
+      counted = rw (length-append (r .bytes), size) (omega (arith, f .total, r .counted));
+      below = rw (length-append (r .bytes), size) (omega (arith, f .left, r .counted));
     }
 
 module _ {path : List ℕ} {source : Source} {text : Text} (r : WholeRead path source text) (buffer : List ℕ) (piece : Piece) (p : PieceRead text source buffer piece) where
@@ -98,9 +111,9 @@ gathered word (filled.Failed failure) text listed before after w o e l = rw e (w
 
 -- all of them
 pub all-gathered : (word : List ℕ) (n : ℕ) (text : Text) (listed : Listed) (before after : List ℕ) → is word "all" ≡ true → (n ≡ 499) × (after ≡ over (numbersTo 499) before)
-    → listed ≡ Entities n Everyone → Gathers word listed text before after
+    → (listed ≡ Entities n Everyone) × (text ≡ noText) → Gathers word listed text before after
 all-gathered word n text listed before after w t e =
-    rw e (record { entities = numbersTo 499; listed = (w, refl); counted = t .0 ∙ sym (numbers-length 499); there = t .1 })
+    rw (e .0) (record { entities = numbersTo 499; listed = (w, refl, e .1); counted = t .0 ∙ sym (numbers-length 499); there = t .1 })
 
 pub none-gathered : (word : List ℕ) (text : Text) (listed : Listed) (buffer : List ℕ) {failure : Failure} → is word "all" ≡ false → Watched (nameIn failure) word → listed ≡ Failed failure
     → Gathers word listed text buffer buffer
@@ -112,3 +125,26 @@ pub inside : (word : List ℕ) {listed : Listed} {n : ℕ} {basis : Basis} (text
 unfolding over
 inside word text before after e g =
     let given = subst (λ (l : Listed). Gathers word l text before after) e g in rw (given .there, length-append (given .entities)) (omega (arith, given .counted))
+
+-- ---- the first wrong word
+
+-- of a text that was read to its end, that of its bytes
+pub wrong-read : (path : List ℕ) (source : Source) (text : Text) (r : ReadToEnd path source text) → toldIn (wrongOf text) ≡ wrongTyped (r .whole .bytes)
+wrong-read path source text r =
+    ap (λ (x : Roster). toldIn (wrongIn (closed x))) (r .whole .read) ∙ wrong-typed (r .whole .bytes) (omega (arith, r .whole .below))
+
+-- with a good date, the opening answers 208 exactly where there is one
+pub refused-read : (path : List ℕ) (source : Source) (text : Text) → ReadToEnd path source text → (date : ℕ) (currency : Currency) → isDate date ≡ true
+    → (opening date currency (entitiesOf text) .answer ≡ refused 208 0) ↔ (toldIn (wrongOf text) ≡ noWord → ⊥)
+refused-read path source text r date currency d =
+    rw (wrong-read path source text r, r .whole .read) (refused-exactly (r .whole .bytes) date currency d)
+
+-- of the word all there is none
+pub wrong-all : toldIn (wrongOf noText) ≡ noWord
+unfolding textBegun readOn wrongTyped wordsFrom ended wrongAmong
+wrong-all = wrong-typed [] (omega arith)
+
+-- so many of its bytes are there
+pub wrong-inside : (text : Text) (wrong : Wrong) {place size : ℕ} → wrong ≡ wrongOf text → wrong .word ≡ Word place size → size ≤ 64
+unfolding wrongIn
+wrong-inside text wrong e w = which-inside _ _ (ap (λ (x : Wrong). x .word) (sym e) ∙ w)

@@ -1,6 +1,6 @@
 -- A roster as it is gathered: all entities, or those of a text that is read piece by piece to its end. No contract can name what the system hands over; but a
 -- source and a text are watched at the same place, and nobody knows which, so that what was read is what was handed over, byte by byte.
-use Prim.Native.Nat.{ℕ}
+use Prim.Native.Nat.{ℕ, _<_}
 use mathlib.Core.Bool.{true, false}
 use mathlib.Core.List.{List}
 use mathlib.Core.Path.{_≡_}
@@ -8,13 +8,15 @@ use lib.ListN.{length, take}
 use Rattle.paper.specs.Buffers.{over}
 use Rattle.paper.specs.Fields.{is}
 use Rattle.paper.specs.Listing.{numbersTo}
+use Rattle.watch.specs.Watches.{watchAt}
 use Rattle.typed.specs.declared.roster.Text.{Text}
-use Rattle.typed.specs.Rosters.{begun, readOn, closed, entitiesIn}
-use Rattle.typed.specs.Texts.{rosterIn, watchIn, textOn}
+use Rattle.typed.specs.declared.roster.Wrong.{Wrong}
+use Rattle.typed.specs.Rosters.{begun, readOn, closed, entitiesIn, wrongIn}
+use Rattle.typed.specs.Texts.{rosterIn, watchIn, textBegun, textOn}
 use Rattle.files.specs.declared.taking.Source.{Source}
 use Rattle.files.specs.declared.taking.Filled.{Filled}
 use Rattle.files.specs.declared.taking.Filled.the-variants as filled
-use Rattle.files.specs.Sources.{hasEnded, watchOf, nameOf, nameIn, Watched, AsFilled, HandedOver}
+use Rattle.files.specs.Sources.{handedBy, hasEnded, watchOf, nameOf, nameIn, mostHanded, Watched, AsFilled, HandedOver}
 use Rattle.intake.specs.declared.roster.Basis.{Basis}
 use Rattle.intake.specs.declared.roster.Basis.the-variants.{Everyone, Typed}
 use Rattle.intake.specs.declared.roster.Piece.{Piece}
@@ -39,6 +41,8 @@ pub record WholeRead (path : List ℕ) (source : Source) (text : Text) : Type 0 
   pub read : rosterIn text ≡ readOn begun bytes
   pub watch : watchIn text ≡ watchOf source
   pub given : HandedOver source bytes
+  pub counted : handedBy source ≡ length bytes
+  pub below : length bytes < mostHanded
 
 pub record ReadToEnd (path : List ℕ) (source : Source) (text : Text) : Type 0 where
   pub whole : WholeRead path source text
@@ -53,6 +57,10 @@ ToEnd path (filled.Failed failure) text = Watched (nameIn failure) path
 abbrev pub entitiesOf : Text → List ℕ
 entitiesOf text = entitiesIn (closed (rosterIn text))
 
+-- its first word that is no entity's number
+abbrev pub wrongOf : Text → Wrong
+wrongOf text = wrongIn (closed (rosterIn text))
+
 -- a text that could not be read lists nothing
 abbrev pub listedBy : Filled → List ℕ → Listed
 listedBy (filled.Bytes source n) entities = Entities (length entities) (Typed source)
@@ -65,9 +73,13 @@ laidBy (Failed failure) entities buffer = buffer
 
 -- ---- what is handed over
 
+-- before any byte, where there is nothing to read
+abbrev pub noText : Text
+noText = textBegun (watchAt 0)
+
 -- 1 to 499, for the word all and no other; or what the text lists
 abbrev pub OnList : List ℕ → Basis → Text → List ℕ → Type 0
-OnList word Everyone text entities = (is word "all" ≡ true) × (entities ≡ numbersTo 499)
+OnList word Everyone text entities = (is word "all" ≡ true) × (entities ≡ numbersTo 499) × (text ≡ noText)
 OnList word (Typed source) text entities = (is word "all" ≡ false) × ReadToEnd word source text × (entities ≡ entitiesOf text)
 
 -- so many entities, first in the buffer

@@ -3,13 +3,14 @@ ghost use mathlib.Core.Path.{_≡_};
 ghost use Rattle.paper.specs.Listing.{numbersTo};
 ghost use Rattle.paper.specs.Buffers.{over};
 ghost use Rattle.files.specs.Sources.{JustOpened};
-ghost use Rattle.intake.specs.Gathering.{PieceRead, ToEnd, entitiesOf, listedBy, laidBy, Gathers};
+ghost use Rattle.intake.specs.Gathering.{PieceRead, ToEnd, entitiesOf, wrongOf, listedBy, laidBy, noText, Gathers};
 use desk::Session;
 use files::taking::Failure;
 use files::taking::Filled;
 use files::taking::Readable;
 use files::taking::Source;
 use typed::roster::Text;
+use typed::roster::Wrong;
 use typed::words;
 use watch::Watch;
 
@@ -32,6 +33,16 @@ pub enum Listed {
 pub struct Roll {
     pub listed: Listed,
     text: Text,
+}
+
+impl Roll {
+    // The first word of the text that is no entity's number.
+    pub fn wrong(self) -> Wrong
+        ensures { λ r. ⌜ r ≡ wrongOf (self .text) ⌝ }
+    {
+        let text = self.text;
+        text.roster().closed().wrong()
+    }
 }
 
 // What is known after a piece of the text: its source, and the text with it.
@@ -109,7 +120,7 @@ fn listed_by(piece: Piece, entities: &mut [u64; Session::ROSTER]) -> Listed
 
 // Nothing was read.
 fn without_text(listed: Listed) -> Roll
-    ensures { λ r. ⌜ r .listed ≡ listed ⌝ }
+    ensures { λ r. ⌜ (r .listed ≡ listed) × (r .text ≡ noText) ⌝ }
 {
     Roll {
         listed,

@@ -2,3 +2,4 @@ pub mod Parts
 pub mod Taking
 pub mod Printing
 pub mod AnswerLines
+pub mod Showing

@@ -10,6 +10,7 @@ use paper::answer::Fault;
 pub mod answers;
 pub mod input;
 mod lines;
+mod shown;
 
 // What a listing can be at most.
 pub struct Listing;
@@ -21,6 +22,14 @@ impl Listing {
     const HEADING: usize = 25;
     // Bytes of a line, at most.
     pub const LINE: usize = 67;
+    // Bytes of a name, at most: no system takes a longer one.
+    pub const NAME: usize = 4096;
+    // Bytes of a line that ends in a name, at most.
+    pub const NAMED: usize = Listing::LINE + 1 + Listing::NAME;
+    // Bytes of a roster's word that are shown, at most.
+    pub const WORD: usize = 64;
+    // Bytes of a line that ends in such a word, at most.
+    pub const WORD_LINE: usize = Listing::LINE + Listing::WORD;
     // The longest listing: the heading, a line for each entity, and one for the sums in place of number 0.
     pub const ROOM: usize = Listing::HEADING + Session::ROSTER * Listing::LINE;
 }

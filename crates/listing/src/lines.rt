@@ -1,17 +1,20 @@
-// The lines of a listing, over an array of cells, and the line of a refusal.
+// The lines of a listing, over an array of cells, and the words of an answer.
 ghost use mathlib.Core.Path.{_≡_};
 ghost use mathlib.Core.List.{[], _++_};
 ghost use Prim.Native.Nat.{ℕ, _+_, _*_, _^_, _≤_, _<_};
 ghost use lib.ListN.{length, getD};
 ghost use lib.IntN.{natAbs};
+ghost use Rattle.paper.specs.Answers.{refused, said};
 ghost use Rattle.paper.specs.Demands.{Touched, sessionSides};
 ghost use Rattle.paper.specs.Fields.{bytes};
 ghost use Rattle.paper.specs.Listing.{decimal, figuresLine, entityLine, plusCell, cellSums, listing, refusalLine};
 ghost use Rattle.paper.specs.Sessions.{zeroCell};
+ghost use Rattle.listing.specs.Answers.{answerWords};
 ghost use Rattle.listing.specs.Room.{HasRoom, Written};
 ghost use Rattle.writing.specs.Laid.{laid};
 use crate::Listing;
 use desk::Session;
+use paper::answer::Answer;
 use paper::ledger::Cell;
 use paper::rules::Rules;
 
@@ -87,14 +90,35 @@ pub fn write(cells: [Cell; Rules::ROSTER], out: &mut [u8; Listing::ROOM]) -> usi
     figures(out, at, sums)
 }
 
+// A refusal in its words.
+fn refused(out: &mut [u8], at: usize, number: u64, place: u64) -> usize
+    requires { ⌜ at + 52 ≤ length (now out) ⌝ }
+    ensures { λ r. ⌜ (r ≡ at + length (answerWords (refused number place)))
+        × (now (out .exit) ≡ laid at (answerWords (refused number place)) (now (out .entry))) ⌝ }
+{
+    let word = writing::text(out, at, b"REFUSED ");
+    let past_number = writing::number(out, word, number);
+    let between = writing::text(out, past_number, b" AT ");
+    writing::number(out, between, place)
+}
+
 // The line that stands in place of a listing.
 pub fn refusal(out: &mut [u8], at: usize, number: u64, place: u64) -> usize
     requires { ⌜ at + 53 ≤ length (now out) ⌝ }
     ensures { λ r. ⌜ (r ≡ at + length (refusalLine number place)) × (now (out .exit) ≡ laid at (refusalLine number place) (now (out .entry))) ⌝ }
 {
-    let word = writing::text(out, at, b"REFUSED ");
-    let past_number = writing::number(out, word, number);
-    let between = writing::text(out, past_number, b" AT ");
-    let past_place = writing::number(out, between, place);
-    writing::text(out, past_place, b"\n")
+    let past_words = refused(out, at, number, place);
+    writing::text(out, past_words, b"\n")
+}
+
+// An answer in its words.
+pub fn answer(out: &mut [u8], at: usize, answer: Answer) -> usize
+    requires { ⌜ at + 52 ≤ length (now out) ⌝ }
+    ensures { λ r. ⌜ (r ≡ at + length (answerWords (said answer)))
+        × (now (out .exit) ≡ laid at (answerWords (said answer)) (now (out .entry))) ⌝ }
+{
+    match answer {
+        Answer::Accepted => writing::text(out, at, b"ACCEPTED"),
+        Answer::Refused(fault, place) => refused(out, at, fault.number(), place as u64),
+    }
 }

@@ -1,3 +1,4 @@
 pub mod Numbers
 pub mod Rosters
 pub mod Steps
+pub mod WrongWords

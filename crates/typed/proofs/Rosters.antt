@@ -15,9 +15,10 @@ use Rattle.paper.specs.Sessions.{Reply, listed, newSession, openingAnswer, open
 use Rattle.paper.proofs.Tests.{and-l, and-r, T-of, of-T}
 use Rattle.paper.proofs.Rosters.{listed-set, listed-none}
 use Rattle.characters.proofs.Ranges.{inside}
+use Rattle.typed.specs.declared.roster.Progress.{Progress}
 use Rattle.typed.specs.declared.roster.Roster.{Roster}
 use Rattle.typed.specs.Words.{grown, grownBy, entityTyped}
-use Rattle.typed.specs.Rosters.{separator, ended, wordsFrom, rosterTyped, begun, noted, closedIf, closed, withIf, readOn, numbersMarked, entitiesIn}
+use Rattle.typed.specs.Rosters.{separator, ended, wordsFrom, rosterTyped, begun, noted, wrongNoted, marksAfter, progressAfter, closed, begunIf, keptWith, progressWith, grownIf, withIf, readOn, numbersMarked, entitiesIn}
 use Rattle.typed.proofs.Numbers.{asEntity, as-within, as-below, as-is, typed-entity}
 
 -- a text read in two pieces is the text read at once
@@ -28,43 +29,86 @@ pieces r (x ∷ a) b = pieces (withIf (separator x) r x) a b
 
 -- ---- the marks that a text's words leave
 
-some : List ℕ → Bool
+unfoldable pub some : List ℕ → Bool
 some [] = false
 some (b ∷ bs) = true
 
--- the marks so far, and the word begun
-typing : List Bool → List ℕ → Roster
-typing marks word = record { listed = marks; word = some word; number = grownBy 0 word }
+-- this word is being read
+pub record Typing (word : List ℕ) (p : Progress) : Type 0 where
+  pub reading : p .word ≡ some word
+  pub so-far : p .number ≡ grownBy 0 word
 
 grown-snoc : (n : ℕ) (word : List ℕ) (b : ℕ) → grown (grownBy n word) b ≡ grownBy n (word ++ b ∷ [])
 unfolding grownBy
 grown-snoc n [] b = refl
 grown-snoc n (x ∷ word) b = grown-snoc (grown n x) word b
 
-some-snoc : (word : List ℕ) (b : ℕ) → true ≡ some (word ++ b ∷ [])
+pub some-snoc : (word : List ℕ) (b : ℕ) → true ≡ some (word ++ b ∷ [])
 unfolding some
 some-snoc [] b = refl
 some-snoc (x ∷ word) b = refl
 
-typing-on : (marks : List Bool) (word : List ℕ) (b : ℕ) → withIf false (typing marks word) b ≡ typing marks (word ++ b ∷ [])
-unfolding withIf typing
-typing-on marks word b = λ i. record { listed = marks; word = some-snoc word b i; number = grown-snoc 0 word b i }
+pub typing-none : Typing [] (begun .progress)
+unfolding begun some grownBy
+typing-none = record { reading = refl; so-far = refl }
 
-noting : List Bool → List (List ℕ) → List Bool
+-- none is, after it has ended
+pub typing-ended : (p : Progress) → Typing [] (progressAfter p)
+unfolding progressAfter some grownBy
+typing-ended p = record { reading = refl; so-far = refl }
+
+-- one that begins has no byte yet
+number-begun : (word : List ℕ) (p : Progress) → Typing word p → begunIf (p .word) p .number ≡ grownBy 0 word
+unfolding begunIf some grownBy
+number-begun [] p t = ap (λ (b : Bool). begunIf b p .number) (t .reading)
+number-begun (x ∷ word) p t = ap (λ (b : Bool). begunIf b p .number) (t .reading) ∙ t .so-far
+
+typing-with : (word : List ℕ) (p : Progress) (b kept : ℕ) → p .number ≡ grownBy 0 word → Typing (word ++ b ∷ []) (progressWith p b kept)
+unfolding progressWith
+typing-with word p b kept e = record { reading = some-snoc word b; so-far = ap (λ (n : ℕ). grown n b) e ∙ grown-snoc 0 word b }
+
+pub typing-on : (wrong : Bool) (word : List ℕ) (r : Roster) (b : ℕ) → Typing word (r .progress) → Typing (word ++ b ∷ []) (grownIf wrong r b .progress)
+unfolding grownIf
+typing-on true word r b t = typing-with word (r .progress) b (r .progress .kept) (t .so-far)
+typing-on false word r b t =
+    let p = begunIf (r .progress .word) (r .progress) in typing-with word p b (keptWith p) (number-begun word (r .progress) t)
+
+-- a byte of a word marks nothing
+marks-stay : (wrong : Bool) (r : Roster) (b : ℕ) → grownIf wrong r b .listed ≡ r .listed
+unfolding grownIf
+marks-stay true r b = refl
+marks-stay false r b = refl
+
+unfoldable pub noting : List Bool → List (List ℕ) → List Bool
 noting marks [] = marks
 noting marks (word ∷ words) = noting (noted marks (entityTyped word)) words
 
-read-words : (text : List ℕ) (marks : List Bool) (word : List ℕ) → closed (readOn (typing marks word) text) .listed ≡ noting marks (wordsFrom word text)
-unfolding closed closedIf readOn withIf typing some noting wordsFrom ended entityTyped grownBy
-read-words [] marks [] = refl
-read-words [] marks (x ∷ word) = refl
-read-words (b ∷ bs) marks word = go (separator b) word (read-words bs)
+-- where a word ends, its own number is noted
+pub marks-ended : (word : List ℕ) (p : Progress) (marks : List Bool) → Typing word p → marksAfter p marks ≡ noting marks (ended word [])
+unfolding marksAfter noting ended some entityTyped
+marks-ended [] p marks t = rw (t .reading)
+marks-ended (x ∷ word) p marks t = rw (t .reading, t .so-far)
+
+noting-ended : (word : List ℕ) (words : List (List ℕ)) (marks : List Bool) → noting (noting marks (ended word [])) words ≡ noting marks (ended word words)
+unfolding noting ended
+noting-ended [] words marks = refl
+noting-ended (x ∷ word) words marks = refl
+
+read-words : (text word : List ℕ) (r : Roster) → Typing word (r .progress) → closed (readOn r text) .listed ≡ noting (r .listed) (wordsFrom word text)
+unfolding closed readOn withIf wordsFrom
+read-words [] word r t = marks-ended word (r .progress) (r .listed) t
+read-words (b ∷ bs) word r t = go (separator b) (read-words bs)
   where
-    go : (s : Bool) (word : List ℕ) → ((marks : List Bool) (word : List ℕ) → closed (readOn (typing marks word) bs) .listed ≡ noting marks (wordsFrom word bs))
-        → closed (readOn (withIf s (typing marks word) b) bs) .listed ≡ noting marks (cond s (ended word (wordsFrom [] bs)) (wordsFrom (word ++ b ∷ []) bs))
-    go true [] h = h marks []
-    go true (x ∷ word) h = h (noted marks (grownBy 0 (x ∷ word))) []
-    go false word h = ap (λ (r : Roster). closed (readOn r bs) .listed) (typing-on marks word b) ∙ h marks (word ++ b ∷ [])
+    go : (s : Bool) → ((word : List ℕ) (r : Roster) → Typing word (r .progress) → closed (readOn r bs) .listed ≡ noting (r .listed) (wordsFrom word bs))
+        → closed (readOn (withIf s r b) bs) .listed ≡ noting (r .listed) (cond s (ended word (wordsFrom [] bs)) (wordsFrom (word ++ b ∷ []) bs))
+    go true h =
+        h [] (closed r) (typing-ended (r .progress))
+        ∙ ap (λ (marks : List Bool). noting marks (wordsFrom [] bs)) (marks-ended word (r .progress) (r .listed) t)
+        ∙ noting-ended word (wordsFrom [] bs) (r .listed)
+    go false h =
+        let wrong = wrongNoted (r .listed) in
+        h (word ++ b ∷ []) (withIf false r b) (typing-on wrong word r b t)
+        ∙ ap (λ (marks : List Bool). noting marks (wordsFrom (word ++ b ∷ []) bs)) (marks-stay wrong r b)
 
 -- they are the marks of the words' numbers
 noted-listed : (es word : List ℕ) → noted (listed 500 0 es) (entityTyped word) ≡ listed 500 0 (es ++ asEntity (number word) ∷ [])
@@ -81,9 +125,9 @@ noting-listed (word ∷ words) es =
 
 -- the marks after a whole text
 typed-marks : (text : List ℕ) → closed (readOn begun text) .listed ≡ listed 500 0 (map asEntity (rosterTyped text))
-unfolding begun typing some grownBy rosterTyped
+unfolding begun rosterTyped
 typed-marks text =
-    read-words text (begun .listed) []
+    read-words text [] begun typing-none
     ∙ ap (λ (marks : List Bool). noting marks (wordsFrom [] text)) (sym listed-none)
     ∙ noting-listed (wordsFrom [] text) []
 
@@ -139,7 +183,7 @@ not-or : (a b : Bool) → not (a || b) ≡ (not a && not b)
 not-or true b = refl
 not-or false b = refl
 
-above-0 : (e : ℕ) → e < 500 → not (eqb 0 e) ≡ within 1 499 e
+pub above-0 : (e : ℕ) → e < 500 → not (eqb 0 e) ≡ within 1 499 e
 above-0 zero h = refl
 above-0 (suc e) h = rw (ne-eqb 0 (suc e) (omega arith)) (inside 1 499 (suc e) (omega arith) (omega arith))
 
@@ -181,6 +225,16 @@ module _ (date : ℕ) (currency : Currency) (es fs : List ℕ) where
       go false true l = refl
       go false false l = refl
 
+-- all that is listed are entities exactly where all words are
+pub all-typed : (text : List ℕ) → every (within 1 499) (entitiesIn (closed (readOn begun text))) ≡ every (within 1 499) (rosterTyped text)
+unfolding entitiesIn
+all-typed text =
+    let ns : List ℕ = rosterTyped text in
+    let es : List ℕ = map asEntity ns in
+    ap (λ (marks : List Bool). every (within 1 499) (numbersMarked 0 marks)) (typed-marks text ∙ listed-first es)
+    ∙ all-marked (among es 0) (listed 499 1 es) (length-listed 499 1 es)
+    ∙ none-at-0 ns
+
 module _ (date : ℕ) (currency : Currency) (text : List ℕ) where
   -- a text opens the session that the numbers of its words open
   pub as-typed : opening date currency (entitiesIn (closed (readOn begun text))) ≡ opening date currency (rosterTyped text)
@@ -188,7 +242,6 @@ module _ (date : ℕ) (currency : Currency) (text : List ℕ) where
   as-typed =
       let ns : List ℕ = rosterTyped text in
       let es : List ℕ = map asEntity ns in
-      let all = all-marked (among es 0) (listed 499 1 es) (length-listed 499 1 es) in
-      ap (λ (marks : List Bool). opening date currency (numbersMarked 0 marks)) (typed-marks text)
-      ∙ opening-alike date currency (numbersMarked 0 (listed 500 0 es)) ns (rw (listed-first es) (all ∙ none-at-0 ns))
-      (λ h. listed-again es ∙ ap (listed 500 0) (own-numbers ns (T-of h)))
+      let marks = typed-marks text in
+      opening-alike date currency (numbersMarked 0 (closed (readOn begun text) .listed)) ns (all-typed text)
+      (λ h. rw marks (listed-again es) ∙ ap (listed 500 0) (own-numbers ns (T-of h)))

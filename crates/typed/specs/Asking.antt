@@ -6,7 +6,7 @@ use lib.Dec.{leb, eqb}
 use Rattle.paper.specs.declared.rules.Currency.the-variants.{Pesos, Dollars}
 use Rattle.paper.specs.Fields.{is}
 use Rattle.typed.specs.declared.call.Job.{Job}
-use Rattle.typed.specs.declared.call.Job.the-variants.{Read, Present, Extract, Build, Strip}
+use Rattle.typed.specs.declared.call.Job.the-variants.{Read, Present, Extract, Build, Strip, Share}
 use Rattle.typed.specs.declared.call.Asked.{Asked}
 use Rattle.typed.specs.declared.call.Asked.the-variants.{To, Nothing}
 
@@ -14,17 +14,18 @@ use Rattle.typed.specs.declared.call.Asked.the-variants.{To, Nothing}
 unfoldable pub askedIn : List ℕ → Job → Bool → Asked
 askedIn currency job fits = cond fits (cond (is currency "pesos") (To job Pesos) (cond (is currency "dollars") (To job Dollars) Nothing)) Nothing
 
--- the job's name, and how many words its call has, the program's own name among them: first the jobs that write a file
+-- the job's name, and how many words its call has, the program's own name and the launcher's three words among them: first the jobs that write files
 unfoldable pub askedToWrite : List ℕ → List ℕ → ℕ → Asked
 askedToWrite job currency count =
-    cond (is job "extract") (askedIn currency Extract (eqb count 8))
-    (cond (is job "build") (askedIn currency Build (eqb count 8))
-    (cond (is job "strip") (askedIn currency Strip (eqb count 7))
-    Nothing))
+    cond (is job "extract") (askedIn currency Extract (eqb count 11))
+    (cond (is job "build") (askedIn currency Build (eqb count 11))
+    (cond (is job "strip") (askedIn currency Strip (eqb count 10))
+    (cond (is job "share") (askedIn currency Share (eqb count 10))
+    Nothing)))
 
--- all of them; the words of `present` are six or more
+-- all of them; the words of `present` are nine or more
 unfoldable pub askedFor : List ℕ → List ℕ → ℕ → Asked
 askedFor job currency count =
-    cond (is job "read") (askedIn currency Read (eqb count 6))
-    (cond (is job "present") (askedIn currency Present (leb 6 count))
+    cond (is job "read") (askedIn currency Read (eqb count 9))
+    (cond (is job "present") (askedIn currency Present (leb 9 count))
     (askedToWrite job currency count))

@@ -10,6 +10,7 @@ pub enum Job {
     Extract,
     Build,
     Strip,
+    Share,
 }
 
 // A job to be done in a currency; or nothing that there is.
@@ -18,23 +19,30 @@ pub enum Asked {
     Nothing,
 }
 
-// Which word stands where. The program's own name is at 0.
+// Which word stands where. The program's own name is at 0. The launcher puts three before what was typed: where it listens, how a file is named while it is
+// written, and the modes of the files that may be replaced.
 pub struct Word;
 
 impl Word {
-    pub const JOB: usize = 1;
+    pub const LAUNCHER: usize = 1;
 
-    pub const DATE: usize = 2;
+    pub const PART: usize = 2;
 
-    pub const CURRENCY: usize = 3;
+    pub const MODES: usize = 3;
 
-    pub const ROSTER: usize = 4;
-    // FILE, or FILE.., or FILE OUT; or ENTITY FILE OUT, or HEADER TRAY OUT
-    pub const FIRST: usize = 5;
+    pub const JOB: usize = 4;
 
-    pub const SECOND: usize = 6;
+    pub const DATE: usize = 5;
 
-    pub const THIRD: usize = 7;
+    pub const CURRENCY: usize = 6;
+
+    pub const ROSTER: usize = 7;
+    // FILE, or FILE.., or FILE OUT, or FILE FOLDER; or ENTITY FILE OUT, or HEADER TRAY OUT
+    pub const FIRST: usize = 8;
+
+    pub const SECOND: usize = 9;
+
+    pub const THIRD: usize = 10;
 }
 
 // The job, where so many words are its, in the currency that the word names.
@@ -53,7 +61,7 @@ fn asked_in(currency: &[u8], job: Job, fits: bool) -> Asked
     Asked::Nothing
 }
 
-// The jobs that write a file.
+// The jobs that write files.
 fn asked_to_write(job: &[u8], currency: &[u8], count: usize) -> Asked
     ensures { λ r. ⌜ r ≡ askedToWrite (now (job .entry)) (now (currency .entry)) count ⌝ }
 {
@@ -65,6 +73,9 @@ fn asked_to_write(job: &[u8], currency: &[u8], count: usize) -> Asked
     }
     if words::is(job, b"strip") {
         return asked_in(currency, Job::Strip, count == Word::SECOND + 1);
+    }
+    if words::is(job, b"share") {
+        return asked_in(currency, Job::Share, count == Word::SECOND + 1);
     }
     Asked::Nothing
 }

@@ -167,18 +167,12 @@ pub fn shuffle<T>(random: &mut Random, list: &mut [T]) {
 
 /// An opening that gives these rules, unless no opening does.
 fn opening_for(random: &mut Random, rules: &Rules) -> Opened {
-    let mut entities: Vec<u64> = (1..500)
-        .filter(|&entity| rules.roster[entity as usize])
-        .collect();
+    let mut opening = Opening::of(rules);
+    let entities = &mut opening.entities;
     if random.once_in(3) {
         entities.extend_from_within(..entities.len().min(3));
-        shuffle(random, &mut entities);
+        shuffle(random, entities);
     }
-    let opening = Opening {
-        date: rules.date,
-        currency: rules.currency,
-        entities,
-    };
     if is_date(rules.date) {
         accepted("opening", opening)
     } else {

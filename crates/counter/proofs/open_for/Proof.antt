@@ -18,6 +18,4 @@ open-for-spec =
     tie.close
     (tie.spec
     (λ c κs. search needs) (λ c. search needs) (λ c. search needs) (λ c. search needs) (λ c κs. search needs)
-    array-share-prefix-entities
-    slice-aggregate-open
-    (λ c κs. search needs) (λ c κs. search needs) (λ c. search needs))
+    array-share-prefix-entities slice-aggregate-open (λ c κs. search needs) (λ c κs. search needs) (λ c. search needs))

@@ -1,34 +1,31 @@
 use mathlib.Core.Path.{_∙_}
-use Prim.Native.Nat.{_/_}
-use lib.ListN.{length}
 use borrow.Author.Needs.{needs}
-use Rattle.export.proofs.Handed.{handed-accepted, handed-refused}
+use Rattle.export.specs.Spoken.{readOf}
+use Rattle.export.proofs.Opened.{said-refused, done-there}
 use Rattle.export.proofs.shaydhoqel_read.Statement.{statement}
 use Rattle.export.proofs.shaydhoqel_read.Tie as tie
 
 returns : tie.Need-returns
+unfolding readOf
 returns c =
-    let right : tie.After-records = search in
-    let read : tie.After-read = search in
+    let wrong : tie.After-answer = search in
+    let opened : tie.After-open = search in
     let currency : tie.After-currency = search in
-    c .speak .ensures
-    ∙ handed-accepted (read .read .result) _ _ (right .records .given .1) (read .read .ensures .1)
-    ∙ simp (read .read .ensures .0, currency .currency .ensures)
+    said-refused _ _ _ _ _ _ (currency .currency .ensures) (opened .«open» .ensures .0) (wrong .answer .given .1) (c .not-opened .ensures)
 
 returns-2 : tie.Need-returns-2
+unfolding readOf
 returns-2 c =
-    let wrong : tie.After-fault = search in
     let read : tie.After-read = search in
+    let right : tie.After-enum-told = search in
+    let opened : tie.After-open = search in
     let currency : tie.After-currency = search in
-    let start : tie.Start = search in
-    c .speak2 .ensures
-    ∙ handed-refused (read .read .result) _ _ (length (start .args .file .now) / 94) (wrong .fault .given .1)
-    ∙ simp (read .read .ensures .0, currency .currency .ensures)
+    done-there _ _ _ _ _ _ (currency .currency .ensures) (opened .«open» .ensures .0) (right .enum-told .given .1)
+    ∙ rw (c .speak .ensures, read .read .ensures)
 
 pub shaydhoqel-read-spec : {M : Type 1} → statement M
 shaydhoqel-read-spec =
     tie.close
     (tie.spec
-    (λ c κs. search needs) (λ c κs. search needs) (λ c. search needs) (λ c κs. search needs) (λ c. search needs) (λ c κs. search needs)
-    returns
-    returns-2)
+    (λ c κs. search needs) (λ c κs. search needs) (λ c. search needs) (λ c κs. search needs) returns (λ c. search needs)
+    (λ c κs. search needs) (λ c κs. search needs) returns-2)

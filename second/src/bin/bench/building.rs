@@ -1,6 +1,6 @@
 //! Both buildings from the same trays, and both strippings of the files they give.
 
-use crate::measuring::{median, opening_of, timed, FILES, RECORDS, ROUNDS, WARM_UP};
+use crate::measuring::{median, timed, FILES, RECORDS, ROUNDS, WARM_UP};
 use second::day::Opening;
 use second::generate::good::file_of;
 use second::generate::random::Random;
@@ -76,7 +76,7 @@ fn asked(number: u64) -> Asked {
     let mut file = vec![0; 94 * RECORDS];
     assert_eq!(build(rules, &header, &tray, &mut file), Ok(file.len()));
     Asked {
-        opening: opening_of(rules),
+        opening: Opening::of(rules),
         header,
         tray,
         file,

@@ -1,16 +1,15 @@
 //! Both extractings from the same files.
 
-use crate::measuring::{median, opening_of, timed, FILES, RECORDS, ROUNDS, WARM_UP};
+use crate::measuring::{median, timed, FILES, RECORDS, ROUNDS, WARM_UP};
 use second::day::Opening;
 use second::generate::addressed::{shared_file, Addressed, Share, SEVERAL};
 use second::generate::random::Random;
-use second::{proved, Rules};
+use second::proved;
 use std::hint::black_box;
 
 /// One file, and all that is asked of it.
 struct Asked {
     opening: Opening,
-    rules: Rules,
     entity: u64,
     file: Vec<u8>,
 }
@@ -44,10 +43,8 @@ pub fn run() {
 fn asked(number: u64, share: Share) -> Asked {
     let mut random = Random::new(RECORDS as u64, number);
     let Addressed { draft, entity } = shared_file(&mut random, RECORDS, SEVERAL, share);
-    let rules = draft.rules.clone();
     Asked {
-        opening: opening_of(&rules),
-        rules,
+        opening: Opening::of(&draft.rules),
         entity: entity as u64,
         file: draft.bytes(),
     }
@@ -76,7 +73,7 @@ fn measure(asked: &Asked, times: &mut Times) {
     let mut out = vec![0; asked.file.len()];
     let lent = &mut out;
     let by_reading =
-        || timed(|| proved::read(black_box(&asked.rules), black_box(&asked.file)).is_ok());
+        || timed(|| proved::read(black_box(&asked.opening), black_box(&asked.file)).is_ok());
     let mut round = |times: &mut Times, proved_first: bool| {
         // Who goes first changes from round to round.
         for turn in if proved_first { [0, 1, 2] } else { [2, 1, 0] } {

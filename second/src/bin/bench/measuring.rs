@@ -1,7 +1,5 @@
 //! What the parts of the measuring share.
 
-use second::day::Opening;
-use second::Rules;
 use std::hint::black_box;
 use std::time::Instant;
 
@@ -23,14 +21,4 @@ pub fn timed(work: impl FnOnce() -> bool) -> f64 {
 pub fn median(mut times: Vec<f64>) -> f64 {
     times.sort_by(f64::total_cmp);
     times[times.len() / 2]
-}
-
-/// The opening that gives these rules.
-pub fn opening_of(rules: &Rules) -> Opening {
-    let listed = (1..500).filter(|&entity| rules.roster[entity as usize]);
-    Opening {
-        date: rules.date,
-        currency: rules.currency,
-        entities: listed.collect(),
-    }
 }

@@ -4,7 +4,7 @@ use crate::measuring::{median, timed};
 use second::day::{Day, Outcome};
 use second::generate::day::full_day;
 use second::generate::random::Random;
-use second::{proved, Rules, Session};
+use second::proved;
 use std::hint::black_box;
 
 const ROUNDS: usize = 20;
@@ -34,10 +34,8 @@ pub fn run() {
 }
 
 fn measure(day: &Day) -> Medians {
-    let opening = &day.opening;
-    let (_, session) = Session::open(opening.date, opening.currency, &opening.entities);
     let by_proved = || timed(|| all_accepted(&proved::day(black_box(day))));
-    let by_reading = || timed(|| all_read(session.rules(), black_box(day)));
+    let by_reading = || timed(|| all_read(black_box(day)));
     let by_second = || timed(|| all_accepted(&black_box(day).run()));
     let (mut presenting, mut reading, mut second) = (Vec::new(), Vec::new(), Vec::new());
     // Who goes first changes from round to round.
@@ -60,7 +58,8 @@ fn all_accepted(outcome: &Outcome) -> bool {
     outcome.opening.is_ok() && outcome.answers.iter().all(Result::is_ok)
 }
 
-/// Each file read by the proved library alone.
-fn all_read(rules: &Rules, day: &Day) -> bool {
-    day.files().all(|file| proved::read(rules, file).is_ok())
+/// Each file read by the proved library alone, in a session opened for it.
+fn all_read(day: &Day) -> bool {
+    day.files()
+        .all(|file| proved::read(&day.opening, file).is_ok())
 }

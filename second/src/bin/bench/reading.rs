@@ -1,9 +1,10 @@
 //! Both readings of the same good files.
 
 use crate::measuring::{median, timed, FILES, RECORDS, ROUNDS, WARM_UP};
+use second::day::Opening;
 use second::generate::good::file_of;
 use second::generate::random::Random;
-use second::{proved, read, Rules};
+use second::{proved, read, Refusal};
 use std::hint::black_box;
 
 struct Medians {
@@ -13,7 +14,7 @@ struct Medians {
 
 pub fn run() {
     println!("buffers are warm: each file is read {WARM_UP} times by both, then measured, before the next");
-    println!("{FILES} files for each size, readings in turn, median of all rounds");
+    println!("{FILES} files for each size, readings in turn, median of all rounds; both open a session each time, measured too");
     let mut ratio = 0.0;
     for (records, rounds) in [(100, 4_000), (1_000, 1_000), (RECORDS, ROUNDS)] {
         let medians = measure(records, rounds);
@@ -30,17 +31,22 @@ pub fn run() {
     println!("ratio at 10000 records: {ratio:.2}");
 }
 
+fn second_read(opening: &Opening, file: &[u8]) -> Result<usize, Refusal> {
+    let (_, session) = opening.open();
+    read(session.rules(), file)
+}
+
 fn measure(records: usize, rounds: usize) -> Medians {
-    let files: Vec<(Rules, Vec<u8>)> = (0..FILES)
+    let files: Vec<(Opening, Vec<u8>)> = (0..FILES)
         .map(|number| {
             let draft = file_of(&mut Random::new(records as u64, number), records);
-            (draft.rules.clone(), draft.bytes())
+            (Opening::of(&draft.rules), draft.bytes())
         })
         .collect();
     let (mut proved_times, mut second_times) = (Vec::new(), Vec::new());
-    for (rules, file) in &files {
-        let by_proved = || timed(|| proved::read(black_box(rules), black_box(file)).is_ok());
-        let by_second = || timed(|| read(black_box(rules), black_box(file)).is_ok());
+    for (opening, file) in &files {
+        let by_proved = || timed(|| proved::read(black_box(opening), black_box(file)).is_ok());
+        let by_second = || timed(|| second_read(black_box(opening), black_box(file)).is_ok());
         for _ in 0..WARM_UP {
             by_proved();
             by_second();

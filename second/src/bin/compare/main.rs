@@ -2,16 +2,8 @@
 
 use std::process::ExitCode;
 
-#[cfg(not(without_proved_library))]
 mod jobs;
 
-#[cfg(without_proved_library)]
-fn main() -> ExitCode {
-    eprintln!("compare was built without the proved library: set PROVED_LIBRARY to its folder");
-    ExitCode::from(2)
-}
-
-#[cfg(not(without_proved_library))]
 fn main() -> ExitCode {
     let arguments = std::env::args().skip(1).map(|argument| argument.parse());
     let arguments: Result<Vec<u64>, _> = arguments.collect();

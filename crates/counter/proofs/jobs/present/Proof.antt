@@ -5,10 +5,10 @@ use Rattle.counter.proofs.jobs.present.Statement.{statement}
 use Rattle.counter.proofs.jobs.present.Tie as tie
 
 abbrev Inv-loop : tie.InvT-loop
-Inv-loop count after₀ word₀ after word = Reachable after
+Inv-loop count after₀ ended₀ word₀ after ended word = Reachable after
 
 abbrev μ-loop : tie.MeasureT-loop
-μ-loop count after₀ word₀ after word = count - word
+μ-loop count after₀ ended₀ word₀ after ended word = count - word
 
 loop-again : tie.Need-loop-again Inv-loop μ-loop
 loop-again c =
@@ -19,6 +19,6 @@ pub present-spec : {M : Type 1} → statement M
 present-spec =
     tie.close
     (tie.spec
-    Inv-loop μ-loop (λ c κs. search needs) (λ c. search needs) (λ c κs. search needs) (λ c. search needs) (λ c. search needs) (λ c. search needs)
-    loop-again
+    Inv-loop μ-loop (λ c κs. search needs) (λ c. search needs) (λ c κs. search needs) (λ c. search needs)
+    (λ c. search needs) (λ c. search needs) (λ c κs. search needs) (λ c. search needs) loop-again (λ c κs. search needs)
     (λ c κs. search needs) (λ c. search needs))

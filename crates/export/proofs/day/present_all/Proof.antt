@@ -7,7 +7,7 @@ use lib.ListN.{length, drop}
 use Rattle.desk.specs.declared.Session.{Session}
 use Rattle.desk.specs.Standing.{standing}
 use Rattle.desk.specs.Calls.{Reachable}
-use Rattle.export.specs.Day.{turnsFrom}
+use Rattle.export.specs.Day.{turnsFrom, turnsOf}
 use Rattle.export.proofs.Days.{turns, one-turn, last-turn}
 use Rattle.export.proofs.day.present_all.Statement.{statement}
 use Rattle.export.proofs.day.present_all.Tie as tie
@@ -43,6 +43,7 @@ loop-again c =
     }
 
 returns : tie.Need-returns Inv-loop μ-loop
+unfolding turnsOf
 returns c =
     let head : tie.At-loop Inv-loop μ-loop = search in
     (head .loop .inv .left ∙ last-turn _ _ _ _ _ (c .loop-test .left), head .loop .inv .reached)

@@ -1,17 +1,28 @@
+use mathlib.Core.Path.{_∙_}
 use borrow.Author.Needs.{needs}
+use Rattle.export.proofs.Opened.{said-refused, done-there}
 use Rattle.export.proofs.tray.shaydhoqel_strip.Statement.{statement}
 use Rattle.export.proofs.tray.shaydhoqel_strip.Tie as tie
 
 returns : tie.Need-returns
 returns c =
-    let stripped : tie.After-strip = search in
+    let wrong : tie.After-answer = search in
     let opened : tie.After-open = search in
     let currency : tie.After-currency = search in
-    rw (← currency .currency .ensures, ← opened .«open» .ensures .0, ← stripped .strip .ensures) (c .speak-output .ensures _)
+    said-refused _ _ _ _ _ _ (currency .currency .ensures) (opened .«open» .ensures .0) (wrong .answer .given .1) (c .not-opened .ensures)
+
+returns-2 : tie.Need-returns-2
+returns-2 c =
+    let stripped : tie.After-strip = search in
+    let right : tie.After-enum-told = search in
+    let opened : tie.After-open = search in
+    let currency : tie.After-currency = search in
+    done-there _ _ _ _ _ _ (currency .currency .ensures) (opened .«open» .ensures .0) (right .enum-told .given .1)
+    ∙ rw (← stripped .strip .ensures) (c .speak-output .ensures _)
 
 pub shaydhoqel-strip-spec : {M : Type 1} → statement M
 shaydhoqel-strip-spec =
     tie.close
     (tie.spec
-    (λ c κs. search needs) (λ c κs. search needs) (λ c κs. search needs) (λ c κs. search needs) (λ c. search needs)
-    returns)
+    (λ c κs. search needs) (λ c κs. search needs) (λ c. search needs) (λ c κs. search needs) returns (λ c. search needs)
+    (λ c κs. search needs) (λ c κs. search needs) (λ c. search needs) returns-2)

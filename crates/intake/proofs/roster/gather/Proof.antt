@@ -18,7 +18,7 @@ returns-3 c =
     let opened : tie.After-open = search in
     let as-text : tie.Else1 = search in
     let asked : tie.After-is = search in
-    none-gathered _ _ _ _ (sym (asked .is .ensures) ∙ as-text .if1 .left) (failed-under _ (failed .failure .given .1) (opened .«open» .ensures)) (c .without-text2 .ensures)
+    none-gathered _ _ _ _ (sym (asked .is .ensures) ∙ as-text .if1 .left) (failed-under _ (failed .failure .given .1) (opened .«open» .ensures)) (c .without-text2 .ensures .0)
 
 read-all-requires : tie.Need-read-all-requires
 read-all-requires c κs =

@@ -34,12 +34,27 @@ returns-3 c =
 returns-4 : tie.Need-returns-4
 unfolding askedToWrite
 returns-4 c =
+    let yes-4 : tie.Then4 = search in
+    let asked-4 : tie.After-is4 = search in
+    let no-3 : tie.Else3 = search in
     let asked-3 : tie.After-is3 = search in
     let no-2 : tie.Else2 = search in
     let asked-2 : tie.After-is2 = search in
     let no-1 : tie.Else1 = search in
     let asked : tie.After-is = search in
-    rw (sym (asked .is .ensures) ∙ no-1 .if1 .left, sym (asked-2 .is2 .ensures) ∙ no-2 .if2 .left, sym (asked-3 .is3 .ensures) ∙ c .if3 .left)
+    rw (c .asked-in4 .ensures, sym (asked .is .ensures) ∙ no-1 .if1 .left, sym (asked-2 .is2 .ensures) ∙ no-2 .if2 .left, sym (asked-3 .is3 .ensures) ∙ no-3 .if3 .left, sym (asked-4 .is4 .ensures) ∙ yes-4 .if4 .taken)
+
+returns-5 : tie.Need-returns-5
+unfolding askedToWrite
+returns-5 c =
+    let asked-4 : tie.After-is4 = search in
+    let no-3 : tie.Else3 = search in
+    let asked-3 : tie.After-is3 = search in
+    let no-2 : tie.Else2 = search in
+    let asked-2 : tie.After-is2 = search in
+    let no-1 : tie.Else1 = search in
+    let asked : tie.After-is = search in
+    rw (sym (asked .is .ensures) ∙ no-1 .if1 .left, sym (asked-2 .is2 .ensures) ∙ no-2 .if2 .left, sym (asked-3 .is3 .ensures) ∙ no-3 .if3 .left, sym (asked-4 .is4 .ensures) ∙ c .if4 .left)
 
 pub asked-to-write-spec : {M : Type 1} → statement M
 asked-to-write-spec =
@@ -51,4 +66,6 @@ asked-to-write-spec =
     returns-2
     (λ c. search needs) (λ c κs. search needs) (λ c. search needs) (λ c κs. search needs)
     returns-3
-    returns-4)
+    (λ c. search needs) (λ c κs. search needs) (λ c. search needs) (λ c κs. search needs)
+    returns-4
+    returns-5)

@@ -20,7 +20,7 @@ impl Job for DayCase {
     const GENERATE: fn(u64, u64) -> Self = generate_day;
 
     fn by_second(&self) -> Outcome {
-        self.day.run()
+        ours(&self.day)
     }
 
     fn by_proved(&self) -> Result<Outcome, String> {
@@ -59,6 +59,14 @@ impl Job for DayCase {
     }
 }
 
+/// Where the opening is refused, that is all.
+fn ours(day: &Day) -> Outcome {
+    match proved::not_opened(&day.opening) {
+        Some(refusal) => proved::day_not_opened(refusal),
+        None => day.run(),
+    }
+}
+
 fn differences(ours: &Outcome, theirs: &Outcome) -> String {
     let openings = different("opening", &[ours.opening], &[theirs.opening]);
     let answers = different("file", &ours.answers, &theirs.answers);
@@ -76,11 +84,17 @@ fn different<T: Debug + PartialEq>(name: &str, ours: &[T], theirs: &[T]) -> Stri
 
 /// What is printed of the session at the end of the day, however many files it has seen.
 fn same_listing(day: &Day) -> Result<(), String> {
-    let (ours, theirs) = (day.listing(), proved::day_listing(day));
+    let theirs = proved::day_listing(day);
+    let ours = match proved::not_opened(&day.opening) {
+        Some(refusal) => Err(refusal),
+        None => Ok(day.listing()),
+    };
     if theirs.as_ref() == Ok(&ours) {
         return Ok(());
     }
-    let (files, texts) = (day.ends().len(), both_texts(&ours, &theirs));
+    let text = |said: Result<_, Refusal>| said.unwrap_or_else(|no| format!("{no:?}").into_bytes());
+    let texts = both_texts(&text(ours), &theirs.map(text));
+    let files = day.ends().len();
     Err(format!("the listing after {files} files\n{texts}"))
 }
 
@@ -88,7 +102,7 @@ fn same_listing(day: &Day) -> Result<(), String> {
 fn same_on_the_way(day: &Day) -> Result<(), String> {
     for files in 0..day.ends().len() {
         let day = day.until(files);
-        let (ours, theirs) = (day.run(), proved::day(&day));
+        let (ours, theirs) = (ours(&day), proved::day(&day));
         if ours != theirs {
             let differences = differences(&ours, &theirs);
             return Err(format!("after {files} files\n{differences}"));

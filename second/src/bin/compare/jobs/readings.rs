@@ -2,6 +2,7 @@
 
 use super::job::{Job, Seen};
 use super::showing::show_and_keep;
+use second::day::Opening;
 use second::generate::{generate, Case};
 use second::{proved, read, Refusal};
 
@@ -12,11 +13,14 @@ impl Job for Case {
     const GENERATE: fn(u64, u64) -> Self = generate;
 
     fn by_second(&self) -> Self::Answer {
-        read(&self.rules, &self.file)
+        match proved::not_opened(&Opening::of(&self.rules)) {
+            Some(refusal) => Err(refusal),
+            None => read(&self.rules, &self.file),
+        }
     }
 
     fn by_proved(&self) -> Result<Self::Answer, String> {
-        Ok(proved::read(&self.rules, &self.file))
+        Ok(proved::read(&Opening::of(&self.rules), &self.file))
     }
 
     fn shows(seen: &Seen<Case>, name: &str) -> u64 {
@@ -34,10 +38,14 @@ impl Job for Case {
     }
 }
 
-/// "accepted", or "refused" and a number.
+/// "accepted", "openings refused by" a number, or "refused" and a number.
 pub fn is_named<T>(answer: Result<T, Refusal>, name: &str) -> bool {
-    match answer {
-        Ok(_) => name == "accepted",
-        Err(refusal) => name.strip_prefix("refused ") == Some(&refusal.number.to_string()),
-    }
+    let Err(Refusal { number, place }) = answer else {
+        return name == "accepted";
+    };
+    let said = match place {
+        proved::OPENING => "openings refused by ",
+        _ => "refused ",
+    };
+    name.strip_prefix(said) == Some(&number.to_string())
 }

@@ -12,7 +12,7 @@ const JUNK: u8 = b'#';
 /// A built file reads as good, and the tray comes back.
 pub fn strips_to_its_tray(case: &TrayCase, file: &[u8]) -> Result<(), String> {
     let good = Ok(file.len() / 94);
-    let readings = [read(&case.rules, file), proved::read(&case.rules, file)];
+    let readings = [read(&case.rules, file), proved::read(&case.opening, file)];
     if readings != [good; 2] {
         return Err(format!("the built file reads as {readings:?}"));
     }

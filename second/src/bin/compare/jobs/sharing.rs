@@ -9,7 +9,7 @@ use std::collections::BTreeMap;
 pub fn reads_with_its_origin(case: &ExtractCase, extract: &[u8]) -> Result<(), String> {
     let mut file = extract.to_vec();
     file[13..23].copy_from_slice(&case.input.file[13..23]);
-    match proved::read(&case.rules, &file) {
+    match proved::read(&case.opening, &file) {
         Ok(records) if records * 94 == extract.len() => Ok(()),
         answer => Err(format!("the extract with its origin reads as {answer:?}")),
     }

@@ -4,7 +4,7 @@ use super::job::{Job, Seen};
 use super::readings::is_named;
 use super::showing::{show_and_keep, show_bytes};
 use second::generate::lending::{Input, Lending};
-use second::{Currency, Written};
+use second::{proved, Currency, Written};
 
 /// What such a job is done on.
 pub trait Writing: Input + Sized + 'static {
@@ -33,7 +33,10 @@ impl<W: Writing> Job for Lending<W> {
     const GENERATE: fn(u64, u64) -> Self = W::GENERATE;
 
     fn by_second(&self) -> Written {
-        self.run()
+        match proved::not_opened(&self.opening) {
+            Some(refusal) => Written::by(&self.buffer, |_| Err(refusal)),
+            None => self.run(),
+        }
     }
 
     fn by_proved(&self) -> Result<Written, String> {
@@ -41,6 +44,10 @@ impl<W: Writing> Job for Lending<W> {
     }
 
     fn check(&self, number: u64, left: &Written) -> Result<(), String> {
+        if !was_opened(left) {
+            // What the second program does in the session of nobody is still what was meant.
+            return Lending::check(self, &self.run());
+        }
         Lending::check(self, left)?;
         W::check(self, number, left)
     }
@@ -69,19 +76,26 @@ impl<W: Writing> Job for Lending<W> {
     }
 }
 
+fn was_opened(left: &Written) -> bool {
+    !left
+        .answer
+        .is_err_and(|refusal| refusal.place == proved::OPENING)
+}
+
 impl<W: Writing> Seen<Lending<W>> {
     pub fn accepted(&self) -> bool {
         self.answer.answer.is_ok()
     }
 
+    /// By the job itself, in a session that was opened.
     pub fn refused(&self, number: u16) -> bool {
         let answer = self.answer.answer;
-        answer.is_err_and(|refusal| refusal.number == number)
+        self.opened() && answer.is_err_and(|refusal| refusal.number == number)
     }
 
     pub fn refused_by_reading(&self) -> bool {
         let answer = self.answer.answer;
-        answer.is_err_and(|refusal| !W::OWN.contains(&refusal.number))
+        self.opened() && answer.is_err_and(|refusal| !W::OWN.contains(&refusal.number))
     }
 
     /// Where it was refused.
@@ -90,7 +104,7 @@ impl<W: Writing> Seen<Lending<W>> {
     }
 
     pub fn opened(&self) -> bool {
-        self.case.opening.open().0.is_ok()
+        was_opened(&self.answer)
     }
 
     pub fn lent(&self) -> usize {
@@ -126,7 +140,6 @@ impl<W: Writing> Seen<Lending<W>> {
         match how {
             "in pesos" => self.case.rules.currency == Currency::Pesos,
             "in dollars" => self.case.rules.currency == Currency::Dollars,
-            "after a refused opening" => !self.opened(),
             "10000 records" | "for 10000 records" => self.is_full(),
             "with no byte lent" => lent == 0,
             "with one byte lent" => lent == 1,

@@ -1,0 +1,99 @@
+"""Writes twenty files, and to standard output a plan: calls on them, one a line, as reach.c, reach.rs and reach.py do them.
+Usage: python3 plan.py FOLDER"""
+
+import sys
+from pathlib import Path
+
+SAMPLES = Path(__file__).resolve().parents[2] / "samples"
+RECORD, TRAY_RECORD = 94, 96
+
+
+def sample(name):
+    return (SAMPLES / name).read_bytes()
+
+
+def changed(file, *changes, record=RECORD):
+    """The file with other texts, each at a record, from 0, and a position in it, from 1."""
+    file = bytearray(file)
+    for place, position, text in changes:
+        start = place * record + position - 1
+        file[start : start + len(text)] = text
+    return bytes(file)
+
+
+def in_dollars(file):
+    """Case L among the same entities in dollars, who add 500; so do the sums of destinations in its controls."""
+    entities = [(0, 15), (1, 80), (2, 4), (2, 80), (3, 4), (3, 80), (4, 80), (5, 80), (6, 4), (6, 80), (8, 80)]
+    entities = [(place, position, b"%04d" % (500 + int(file[place * RECORD + position - 1 :][:4]))) for place, position in entities]
+    return changed(file, *entities, (4, 11, b"0018050003"), (8, 11, b"0009010001"), (9, 22, b"0027060004"))
+
+
+def twenty():
+    """By name. What is said is the answer on reading among 401, 402 and 403 in pesos, or, of a tray, on building."""
+    l, tray = sample("case-l.txt"), sample("tray.txt")
+    return {
+        "case-l": l,  # accepted, and the next too
+        "identifier-b": changed(l, (0, 34, b"B")),
+        "dollars": in_dollars(l),  # 203 at 0, and accepted in dollars
+        "zero-amount": sample("zero-amount.txt"),  # 19 at 2
+        "other-date": changed(l, (0, 24, b"250629")),  # 75 at 0
+        "reserved": changed(l, (2, 12, b"1")),  # 77 at 2
+        "account": changed(l, (2, 13, b" ")),  # 78 at 2
+        "reference": changed(l, (3, 40, b" " * 15)),  # 79 at 3
+        "information": changed(l, (6, 77, b"02")),  # 87 at 6
+        "additional": l[: 7 * RECORD] + l[8 * RECORD :],  # 25 at 7
+        "counter": changed(l, (3, 88, b"0000001")),  # 27 at 3
+        "off-roster": changed(l, (2, 4, b"0404")),  # 204 at 2
+        "unclosed": l[: -RECORD],  # 17 at 9
+        "empty": b"",  # 201 at 0, and the next too
+        "too-long": 1000 * l + l[:RECORD],
+        "junk": bytes(range(256)) * 3 + bytes(172),  # 17 at 0
+        "tray": tray,  # accepted
+        "tray-mark": changed(tray, (3, 1, b"X"), record=TRAY_RECORD),  # 207 at 3
+        "tray-zero": changed(tray, (1, 32, b"0" * 10), record=TRAY_RECORD),  # 19 at 2
+        "tray-long": tray + 9992 * tray[-TRAY_RECORD:],  # 201 at 0
+    }
+
+
+OPENINGS = (
+    "250630 pesos 401,402,403",
+    "250630 dollars 403,402,401,401",
+    "250630 pesos nobody",
+    "250631 pesos 401,402,403",  # no date
+    "250630 pesos 401,402,403,500",
+    "18446744073709551615 dollars 0",
+)
+ENTITIES = (401, 402, 404, 0, 500, 18446744073709551615)
+
+
+def plan(names):
+    for name in names:
+        yield f"listing {name}"
+    for opening in OPENINGS:
+        for files in names, ["case-l", "case-l", "identifier-b"], ["dollars", "dollars"], []:
+            yield " ".join(["day", opening, *files])
+            yield " ".join(["day_listing", opening, *files])
+        for name in names:
+            yield f"read {opening} {name}"
+            for entity in ENTITIES:
+                yield f"extract {opening} {entity} {name} 1000"
+            # too short by a byte for what case L gives, and no buffer at all
+            for room in 469, 0:
+                yield f"extract {opening} 402 {name} {room}"
+            for room in 1000, 575, 0:
+                yield f"strip {opening} {name} {room}"
+            for header in "header", "dollars-header":
+                yield f"build {opening} {header} {name} 1000"
+            for room in 939, 0:
+                yield f"build {opening} header {name} {room}"
+            yield f"build {opening} {name} tray 1000"
+
+
+if __name__ == "__main__":
+    folder = Path(sys.argv[1])
+    files = twenty()
+    headers = {"header": sample("header.txt"), "dollars-header": files["dollars"][:RECORD]}
+    for name, text in {**files, **headers}.items():
+        (folder / name).write_bytes(text)
+    for line in plan(list(files)):
+        print(line)

@@ -1,0 +1,73 @@
+"""Does the calls of a plan on the files of this folder, and prints each with its answer.
+Usage: python3 reach.py < PLAN"""
+
+import sys
+from pathlib import Path
+
+sys.path.insert(0, str(Path(__file__).resolve().parent.parent / "python"))
+from shaydhoqel import Cell, Opening, Refusal, listing
+
+
+def digest(text):
+    """FNV-1a, in 64 bits."""
+    number = 0xCBF29CE484222325
+    for byte in text:
+        number = (number ^ byte) * 0x100000001B3 % 2**64
+    return f"{number:016x}"
+
+
+def said(refusal):
+    return "0@0" if refusal is None else f"{refusal.number:d}@{refusal.place}"
+
+
+def written(job, *arguments):
+    """The answer, and what the buffer then holds; the last argument is its length."""
+    *arguments, room = arguments
+    out = bytearray(b"\xa5" * int(room))
+    try:
+        answer = f"0 {job(*arguments, out)}"
+    except Refusal as refusal:
+        answer = refused(refusal)
+    return f"{answer} {digest(out)}"
+
+
+def refused(refusal):
+    return f"{refusal.number:d} {'opening' if refusal.opening else refusal.place}"
+
+
+def answers(opening, files):
+    day = opening.day(files)
+    cells = [f"{entity}:{c.position}/{c.sent}/{c.received}" for entity, c in enumerate(day.cells) if c != Cell()]
+    return " ".join(["0 0", *map(said, day.answers), *cells])
+
+
+def listed(text):
+    return f"0 {len(text)} {digest(text)}"
+
+
+def done(job, words):
+    """The answer to one call."""
+    file = lambda name: Path(name).read_bytes()
+    if job == "listing":
+        return listed(listing(file(words[0])))
+    date, currency, entities, *rest = words
+    opening = Opening(int(date), currency, [] if entities == "nobody" else map(int, entities.split(",")))
+    if job == "extract":
+        return written(opening.extract_into, int(rest[0]), file(rest[1]), rest[2])
+    if job == "build":
+        return written(opening.build_into, file(rest[0]), file(rest[1]), rest[2])
+    if job == "strip":
+        return written(opening.strip_into, file(rest[0]), rest[1])
+    try:
+        if job == "read":
+            return f"0 {opening.read(file(rest[0]))}"
+        if job == "day":
+            return answers(opening, map(file, rest))
+        return listed(opening.day_listing(map(file, rest)))
+    except Refusal as refusal:
+        return refused(refusal)
+
+
+for line in map(str.strip, sys.stdin):
+    job, *words = line.split(" ")
+    print(line, "=", done(job, words))

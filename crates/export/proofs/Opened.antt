@@ -1,0 +1,27 @@
+-- A job in the session opened, or not.
+use Prim.Native.Nat.{ℕ}
+use mathlib.Core.Bool.{Bool}
+use mathlib.Core.List.{List}
+use mathlib.Core.Path.{_≡_}
+use Rattle.paper.specs.declared.answer.Answer.the-variants.{Accepted, Refused}
+use Rattle.paper.specs.declared.answer.Fault.{Fault}
+use Rattle.paper.specs.declared.rules.Currency.{Currency}
+use Rattle.paper.specs.Answers.{numberOf}
+use Rattle.paper.specs.Listing.{currencyIf}
+use Rattle.paper.specs.Sessions.{Session}
+use Rattle.desk.specs.declared.Reply.{Reply}
+use Rattle.desk.specs.Standing.{standing}
+use Rattle.desk.specs.Calls.{Opens}
+use Rattle.export.specs.declared.Spoken.{Spoken}
+use Rattle.export.specs.Spoken.{Delivered, notOpened, afterOpening, inSession}
+
+module _ {Lent : Type 0} (date : ℕ) (dollars : Bool) (entities : List ℕ) (lent : Lent) (job : Session → Delivered Lent) {currency : Currency} (reply : Reply)
+    (asked : currency ≡ currencyIf dollars) (opens : Opens date currency entities reply) where
+  pub said-refused : {fault : Fault} {place : ℕ} {spoken : Spoken} → reply .answer ≡ Refused fault place → spoken ≡ notOpened (numberOf fault)
+      → inSession date dollars entities lent job ≡ record { spoken = spoken; lent = lent }
+  unfolding inSession afterOpening
+  said-refused e s = rw (s, ← asked, ← opens, e)
+
+  pub done-there : reply .answer ≡ Accepted → inSession date dollars entities lent job ≡ job (standing (reply .session))
+  unfolding inSession afterOpening
+  done-there e = rw (← asked, ← opens, e)

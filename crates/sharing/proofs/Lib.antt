@@ -1,0 +1,4 @@
+pub mod Looking
+pub mod Parts
+pub mod Shares
+pub mod HandOut
