@@ -5,7 +5,6 @@ ghost use Rattle.handing.specs.Handed.{AllOf};
 use files::saying;
 use libc::ENOENT;
 use libc::PATH_MAX;
-use libc::SEEK_END;
 use modes::Mode;
 
 pub mod modes;
@@ -29,15 +28,6 @@ fn is_link(path: &[u8]) -> bool
     libc::readlink(&ended, &mut target) >= 0
 }
 
-// Devices and pipes have no length that could be set.
-fn has_length(fd: i32) -> bool {
-    let length = libc::lseek(fd, 0, SEEK_END);
-    if length < 0 {
-        return false;
-    }
-    libc::ftruncate(fd, length) == 0
-}
-
 // Whether a new file can take its place: there is none, or a plain one.
 fn is_plain(path: &[u8]) -> bool {
     let fd = os::open_update(path);
@@ -48,7 +38,8 @@ fn is_plain(path: &[u8]) -> bool {
         saying::failed(path);
         return false;
     }
-    let plain = has_length(fd);
+    // nothing of a device or a pipe can be kept on a disk; asking that changes nothing of the file
+    let plain = libc::fsync(fd) == 0;
     libc::close(fd);
     if !plain {
         saying::wrong(path, b"not a plain file");

@@ -25,7 +25,8 @@ use Rattle.typed.specs.Rosters.{ended, wordsFrom, noWord, wrongAmong, wrongType
 use Rattle.typed.specs.Texts.{rosterIn, watchIn, textBegun, textOn}
 use Rattle.typed.proofs.Rosters.{pieces}
 use Rattle.typed.proofs.Steps.{over-snoc}
-use Rattle.typed.proofs.WrongWords.{wrong-typed, which-inside, refused-exactly}
+use Rattle.typed.proofs.WrongWords.{wrong-typed, which-inside}
+use Rattle.typed.proofs.WrongRosters.{refused-exactly}
 use Rattle.files.specs.declared.taking.Source.{Source}
 use Rattle.files.specs.declared.taking.Failure.{Failure}
 use Rattle.files.specs.declared.taking.Filled.{Filled}

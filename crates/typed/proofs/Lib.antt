@@ -1,4 +1,6 @@
 pub mod Numbers
 pub mod Rosters
 pub mod Steps
+pub mod NotedWords
 pub mod WrongWords
+pub mod WrongRosters

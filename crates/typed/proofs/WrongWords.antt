@@ -1,73 +1,25 @@
 -- The first wrong word, as it is kept while a text is read, and that of the text.
-use Prim.Native.Nat.{ℕ, zero, suc, _+_, _^_, _≤_, _<_}
+use Prim.Native.Nat.{ℕ, _+_, _^_, _≤_, _<_}
 use native.Mathlib.Nat.{min-le-left}
 use native.Mathlib.Numerals.{add-one}
 use native.Mathlib.Omega.{arith}
-use mathlib.Core.Bool.{Bool, true, false, not, _&&_, _||_, cond, or-false, false≢true}
-use mathlib.Core.List.{List, [], _∷_, _++_, map}
-use mathlib.Core.Logic.{_↔_, _⊎_, inl, inr, ⊎-elim}
+use mathlib.Core.Bool.{Bool, true, false, not, cond, or-false}
+use mathlib.Core.List.{List, [], _∷_, _++_}
+use mathlib.Core.Logic.{_⊎_, inl, inr, ⊎-elim}
 use mathlib.Core.Path.{_≡_, refl, sym, ap, _∙_, subst}
-use borrow.Author.Tests.{not-true, not-false, ltb-true, ltb-false, lt-ltb, le-ltb, eq-eqb, ne-eqb}
+use borrow.Author.Tests.{not-true, not-false, ltb-true, ltb-false, lt-ltb, le-ltb}
 use lib.Dec.{ltb, eqb}
 use lib.ListN.{length, getD, take, set, length-set, length-append, length-replicate, length-take}
 use lib.Seq.{take-all, take-append-le, take-suc-set, length-take-le}
-use Rattle.paper.specs.declared.rules.Currency.{Currency}
-use Rattle.paper.specs.Answers.{accepted, refused, andThen, require}
-use Rattle.paper.specs.Dates.{isDate}
-use Rattle.paper.specs.Fields.{within, every, number}
-use Rattle.paper.specs.Sessions.{openingAnswer, opening}
+use Rattle.paper.specs.Fields.{within, number}
 use Rattle.typed.specs.declared.roster.Progress.{Progress}
 use Rattle.typed.specs.declared.roster.Roster.{Roster}
 use Rattle.typed.specs.declared.roster.Which.the-variants.{Word, Nothing}
 use Rattle.typed.specs.Words.{entityTyped}
-use Rattle.typed.specs.Rosters.{separator, ended, wordsFrom, rosterTyped, WrongWord, noWord, wordAt, wrongAmong, wrongTyped, toldBy, toldIn, begun, noted, wrongNoted, marksAfter, progressAfter, closed, nextPlace, begunIf, bytesWith, keptWith, progressWith, grownIf, withIf, readOn, entitiesIn, whichIf, wrongIn}
+use Rattle.typed.specs.Rosters.{separator, ended, wordsFrom, noWord, wrongAmong, wrongTyped, toldBy, toldIn, begun, noted, wrongNoted, marksAfter, progressAfter, closed, nextPlace, begunIf, bytesWith, keptWith, progressWith, grownIf, withIf, readOn, whichIf, wrongIn}
 use Rattle.typed.proofs.Numbers.{asEntity, as-within, as-below, typed-entity}
-use Rattle.typed.proofs.Rosters.{some, some-snoc, Typing, typing-none, typing-on, typing-ended, all-typed, above-0}
-
--- what is told after part of a text
-abbrev tells : Roster → WrongWord
-tells r = toldIn (wrongIn r)
-
--- ---- once a word was wrong, the same is told
-
-first-set : (marks : List Bool) (e : ℕ) → 0 < length marks → getD (set marks e true) 0 false ≡ (eqb 0 e || getD marks 0 false)
-first-set [] e h = absurd (omega arith)
-first-set (m ∷ marks) zero h = rw (eq-eqb 0 0 refl)
-first-set (m ∷ marks) (suc e) h = rw (ne-eqb 0 (suc e) (omega arith))
-
-still-noted : (marks : List Bool) (e : ℕ) → getD marks 0 false ≡ true → getD (set marks e true) 0 false ≡ true
-still-noted [] e h = absurd (false≢true h)
-still-noted (m ∷ marks) zero h = refl
-still-noted (m ∷ marks) (suc e) h = h
-
--- what is told of a wrong word is kept in these
-abbrev Same : Roster → Roster → Type 0
-Same r s = (wrongNoted (s .listed) ≡ true) × (s .bytes ≡ r .bytes) × (s .progress .place ≡ r .progress .place) × (s .progress .kept ≡ r .progress .kept)
-
-same-told : (r s : Roster) → wrongNoted (r .listed) ≡ true → Same r s → tells s ≡ tells r
-unfolding wrongIn whichIf toldBy
-same-told r s h e = rw (h, e .0, e .1, e .2, e .3)
-
-same-closed : (r : Roster) → wrongNoted (r .listed) ≡ true → Same r (closed r)
-unfolding closed marksAfter progressAfter noted
-same-closed r h = (go (r .progress .word), refl, refl, refl)
-  where
-    go : (b : Bool) → wrongNoted (cond b (noted (r .listed) (r .progress .number)) (r .listed)) ≡ true
-    go true = still-noted (r .listed) (cond (ltb (r .progress .number) 500) (r .progress .number) 0) h
-    go false = h
-
-same-with : (s : Bool) (r : Roster) (b : ℕ) → wrongNoted (r .listed) ≡ true → Same r (withIf s r b)
-unfolding withIf grownIf progressWith
-same-with true r b h = same-closed r h
-same-with false r b h = subst (λ (wrong : Bool). Same r (grownIf wrong r b)) (sym h) (h, refl, refl, refl)
-
-same-read : (text : List ℕ) (r : Roster) → wrongNoted (r .listed) ≡ true → tells (closed (readOn r text)) ≡ tells r
-unfolding readOn
-same-read [] r h = same-told r (closed r) h (same-closed r h)
-same-read (b ∷ bs) r h =
-    let s = withIf (separator b) r b in
-    let e = same-with (separator b) r b h in
-    same-read bs s (e .0) ∙ same-told r s h e
+use Rattle.typed.proofs.Rosters.{some, some-snoc, Typing, typing-none, typing-on, typing-ended, above-0}
+use Rattle.typed.proofs.NotedWords.{tells, first-set, same-read}
 
 -- ---- until then, the first bytes of the word being read are kept
 
@@ -272,37 +224,3 @@ which-inside true p {place} {size} e = go (ltb (p .kept) 64) refl e
     go : (t : Bool) → ltb (p .kept) 64 ≡ t → Word (p .place) (cond t (p .kept) 64) ≡ Word place size → size ≤ 64
     go true h e = let l = ltb-true (p .kept) 64 h in let same : p .kept ≡ size = cc in omega arith
     go false h e = let same : 64 ≡ size = cc in omega arith
-
--- ---- where there is one
-
-none-wrong : (words : List (List ℕ)) (n : ℕ) → (wrongAmong n words ≡ noWord) ↔ (every (within 1 499) (map number words) ≡ true)
-unfolding wrongAmong every
-none-wrong [] n = (λ e. refl, λ e. refl)
-none-wrong (word ∷ words) n = go (within 1 499 (number word)) (none-wrong words (n + 1))
-  where
-    go : (b : Bool) → (wrongAmong (n + 1) words ≡ noWord) ↔ (every (within 1 499) (map number words) ≡ true)
-        → (cond b (wrongAmong (n + 1) words) (wordAt (n + 1) (take 64 word)) ≡ noWord) ↔ ((b && every (within 1 499) (map number words)) ≡ true)
-    go true h = h
-    go false h = (λ e. absurd (never e), λ e. absurd (false≢true e))
-      where
-        never : wordAt (n + 1) (take 64 word) ≡ noWord → ⊥
-        never e = let z : _≡_ {A = ℕ} 0 1 = cc in omega arith
-
-module _ (text : List ℕ) where
-  -- all words of a text are entities exactly where there is none to tell
-  pub wrong-exactly : (wrongTyped text ≡ noWord) ↔ (every (within 1 499) (rosterTyped text) ≡ true)
-  unfolding wrongTyped rosterTyped
-  wrong-exactly = none-wrong (wordsFrom [] text) 0
-
-  -- where the date is good, the opening answers 208 exactly where there is a word to tell
-  pub refused-exactly : (date : ℕ) (currency : Currency) → isDate date ≡ true
-      → (opening date currency (entitiesIn (closed (readOn begun text))) .answer ≡ refused 208 0) ↔ (wrongTyped text ≡ noWord → ⊥)
-  unfolding opening openingAnswer andThen require
-  refused-exactly date currency d = rw (d, all-typed text) (go (every (within 1 499) (rosterTyped text)) wrong-exactly)
-    where
-      go : (b : Bool) → (wrongTyped text ≡ noWord) ↔ (b ≡ true) → (require b 208 0 ≡ refused 208 0) ↔ (wrongTyped text ≡ noWord → ⊥)
-      go true h = (λ e. absurd (never e), λ n. absurd (n (h .1 refl)))
-        where
-          never : accepted ≡ refused 208 0 → ⊥
-          never e = let z : _≡_ {A = ℕ} 0 1 = cc in omega arith
-      go false h = (λ e w. false≢true (h .0 w), λ n. refl)
