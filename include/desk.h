@@ -37,6 +37,10 @@ extern "C" {
 #define SHAYDHOQEL_TRAY_RECORD 96
 #define SHAYDHOQEL_TRAY_ROOM 960000
 
+/* Bytes of the text of a reason, and of a motive list: one hundred lines, R00 first. */
+#define SHAYDHOQEL_TEXT 44
+#define SHAYDHOQEL_MOTIVES 4400
+
 /* Entity numbers 0 to 499; nobody has number 0. */
 #define SHAYDHOQEL_ENTITIES 500
 
@@ -56,6 +60,9 @@ extern "C" {
 #define SHAYDHOQEL_STACK_EXTRACT 131072
 #define SHAYDHOQEL_STACK_BUILD 131072
 #define SHAYDHOQEL_STACK_STRIP 131072
+#define SHAYDHOQEL_STACK_RECEIVE 131072
+#define SHAYDHOQEL_STACK_SHOW 196608
+#define SHAYDHOQEL_STACK_REASONS 196608
 
 /* Figures of the cells, in one buffer: figure f of entity e stands at index f * SHAYDHOQEL_ENTITIES + e. A later library may know more
    figures. They stand behind these, so that no index moves, and a caller that lends room for these sees no other. */
@@ -68,6 +75,16 @@ enum shaydhoqel_figure {
     SHAYDHOQEL_RECEIVED = 2,
     /* how many figures there are */
     SHAYDHOQEL_FIGURES = 3
+};
+
+/* Where the text of a reason stands. */
+enum shaydhoqel_source {
+    /* there is none: the record is no rejection's additional record, or the call was refused */
+    SHAYDHOQEL_NOWHERE = 0,
+    /* in positions 36-79 of the additional record */
+    SHAYDHOQEL_IN_FILE = 1,
+    /* those are blank: in the motive list, on the line of the record's R number */
+    SHAYDHOQEL_IN_MOTIVES = 2
 };
 
 /* Numbers on the counter, as document 01 lists them; acceptance is 0. */
@@ -99,12 +116,14 @@ enum shaydhoqel_number {
     SHAYDHOQEL_REFUSED_ROSTER = 204,
     /* output buffer shorter than the output */
     SHAYDHOQEL_REFUSED_ROOM = 206,
-    /* tray or header body malformed */
+    /* tray or header body malformed, or motive list not 4,400 bytes */
     SHAYDHOQEL_REFUSED_TRAY = 207,
-    /* entity number not 1 to 499, or, when extracting, not on the roster */
+    /* entity number not 1 to 499, or, in a job for one entity, not on the roster */
     SHAYDHOQEL_REFUSED_ENTITY = 208,
     /* identifier already accepted from this origin */
-    SHAYDHOQEL_REFUSED_IDENTIFIER = 209
+    SHAYDHOQEL_REFUSED_IDENTIFIER = 209,
+    /* record asked for is not a rejection's additional record */
+    SHAYDHOQEL_REFUSED_REASON = 214
 };
 
 /* An answer. Accepted: number is 0, and place is the count that the function names, or 0 where it names none.
@@ -112,6 +131,15 @@ enum shaydhoqel_number {
 struct shaydhoqel_spoken {
     uint64_t number;
     uint64_t place;
+};
+
+/* The answer on one text. Accepted: number is 0, place is SHAYDHOQEL_TEXT, source is SHAYDHOQEL_IN_FILE or SHAYDHOQEL_IN_MOTIVES, and the
+   text begins at byte `at` of that, from 0. Refused: number and place as above, then SHAYDHOQEL_NOWHERE and 0. */
+struct shaydhoqel_shown {
+    uint64_t number;
+    uint64_t place;
+    uint64_t source;
+    uint64_t at;
 };
 
 /* Opens a session, reads a file in it, and counts the file's records. */
@@ -161,6 +189,25 @@ struct shaydhoqel_spoken shaydhoqel_build(uint64_t date, bool dollars, const uin
    file's reading is, then by 206, with nothing written; the rest of out always stays. SHAYDHOQEL_TRAY_ROOM bytes are always enough. */
 struct shaydhoqel_spoken shaydhoqel_strip(uint64_t date, bool dollars, const uint64_t *entities, size_t entities_length,
                                           const uint8_t *file, size_t file_length, uint8_t *out, size_t out_length);
+
+/* Opens a session, and reads an extract in it as the desk of its entity does: counts its records. Refused as the opening is, then by 208,
+   then as the reading is, where another desk's header, a foreign destination or a wrong batch number is 17. Nothing is posted. */
+struct shaydhoqel_spoken shaydhoqel_receive(uint64_t date, bool dollars, const uint64_t *entities, size_t entities_length,
+                                            uint64_t entity, const uint8_t *file, size_t file_length);
+
+/* Receives such an extract, and shows the reason in one record of it, the additional record of a rejection, counted from 0: where its text
+   stands, in the file or in the motive list, whose bytes are not judged. Refused as receiving is, with 207 for a motive list of another
+   length before the reading, and 214 after it where the record is no such one, or none. */
+struct shaydhoqel_shown shaydhoqel_show(uint64_t date, bool dollars, const uint64_t *entities, size_t entities_length,
+                                        uint64_t entity, const uint8_t *file, size_t file_length, const uint8_t *motives,
+                                        size_t motives_length, uint64_t record);
+
+/* The same for all records at once, and counts them. texts: of record i the source is written to texts[2 i], SHAYDHOQEL_NOWHERE where
+   showing would refuse it by 214, and the byte to texts[2 i + 1], where there is room for both; the rest stays, so 2 elements for each
+   record take all. Refused as showing is but for 214, with nothing written. */
+struct shaydhoqel_spoken shaydhoqel_reasons(uint64_t date, bool dollars, const uint64_t *entities, size_t entities_length,
+                                            uint64_t entity, const uint8_t *file, size_t file_length, const uint8_t *motives,
+                                            size_t motives_length, uint64_t *texts, size_t texts_length);
 
 #ifdef __cplusplus
 }

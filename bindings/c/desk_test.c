@@ -24,6 +24,12 @@ static uint8_t file_out[SHAYDHOQEL_FILE_LIMIT];
 static uint8_t tray_out[SHAYDHOQEL_TRAY_ROOM];
 static uint8_t listing_out[SHAYDHOQEL_LISTING];
 
+/* An extract for 402 with two rejections, whose additional records stand at 3 and 5; the first has a text. In the motive list the line of
+   each R number is that number, in all its bytes. */
+#define RETURNED 8
+static uint8_t returned[RETURNED * SHAYDHOQEL_RECORD], motives[SHAYDHOQEL_MOTIVES];
+static const char reason[] = "SIN FONDOS                                  ";
+
 /* No assert: that may be compiled out. */
 static void require(bool holds, const char *what, int line) {
     if (!holds) {
@@ -35,6 +41,10 @@ static void require(bool holds, const char *what, int line) {
 
 static bool says(struct shaydhoqel_spoken answer, uint64_t number, uint64_t place) {
     return answer.number == number && answer.place == place;
+}
+
+static bool shows(struct shaydhoqel_shown answer, uint64_t number, uint64_t place, uint64_t source, uint64_t at) {
+    return answer.number == number && answer.place == place && answer.source == source && answer.at == at;
 }
 
 static bool all(uint8_t byte, const uint8_t *bytes, size_t length) {
@@ -83,6 +93,29 @@ static void make_tray(void) {
         }
     }
     REQUIRE(to == tray + TRAY_LENGTH);
+}
+
+/* Two records of a tray, the individual and its additional: case L's first debit comes back to 402. */
+static void put_rejection(uint8_t *to, const char *code, int number, const char *text) {
+    char additional[SHAYDHOQEL_TRAY_RECORD + 1];
+    memcpy(to, tray + SHAYDHOQEL_TRAY_RECORD, SHAYDHOQEL_TRAY_RECORD);
+    memcpy(to + 3, code, 2);
+    to[80] = '1';
+    snprintf(additional, sizeof additional, "AD799R%02d%015d      04010001%-44s040100010000000", number, 1, text);
+    memcpy(to + SHAYDHOQEL_TRAY_RECORD, additional, SHAYDHOQEL_TRAY_RECORD);
+}
+
+static void make_returned(void) {
+    static uint8_t rejected[5 * SHAYDHOQEL_TRAY_RECORD];
+    memcpy(rejected, tray, SHAYDHOQEL_TRAY_RECORD);
+    put_rejection(rejected + SHAYDHOQEL_TRAY_RECORD, "36", 10, reason);
+    put_rejection(rejected + 3 * SHAYDHOQEL_TRAY_RECORD, "31", 29, "");
+    struct shaydhoqel_spoken built = shaydhoqel_build(OPENING, l, SHAYDHOQEL_RECORD, SLICE(rejected), SLICE(file_out));
+    REQUIRE(built.number == 0);
+    REQUIRE(says(shaydhoqel_extract(OPENING, 402, file_out, built.place, SLICE(returned)), 0, sizeof returned));
+    for (size_t i = 0; i < sizeof motives; i++) {
+        motives[i] = (uint8_t)(i / SHAYDHOQEL_TEXT);
+    }
 }
 
 static void reads(void) {
@@ -160,8 +193,9 @@ static bool not_opened(struct shaydhoqel_spoken answer, uint64_t number) {
 static void bad_opening(uint64_t date, uint64_t number) {
     static int64_t figures[ALL_FIGURES];
     const uint64_t end = L_LENGTH, bad[] = {401, 402, 403, 500};
-    uint64_t answer[2];
+    uint64_t answer[2], texts[2 * RETURNED];
     memset(answer, JUNK, sizeof answer);
+    memset(texts, JUNK, sizeof texts);
     memset(figures, JUNK, sizeof figures);
     refill();
     REQUIRE(not_opened(shaydhoqel_read(date, false, SLICE(bad), SLICE(l)), number));
@@ -171,6 +205,11 @@ static void bad_opening(uint64_t date, uint64_t number) {
     REQUIRE(not_opened(shaydhoqel_extract(date, false, SLICE(bad), 402, SLICE(l), SLICE(file_out)), number));
     REQUIRE(not_opened(shaydhoqel_build(date, false, SLICE(bad), l, SHAYDHOQEL_RECORD, SLICE(tray), SLICE(file_out)), number));
     REQUIRE(not_opened(shaydhoqel_strip(date, false, SLICE(bad), SLICE(l), SLICE(tray_out)), number));
+    REQUIRE(not_opened(shaydhoqel_receive(date, false, SLICE(bad), 402, SLICE(returned)), number));
+    struct shaydhoqel_shown shown = shaydhoqel_show(date, false, SLICE(bad), 402, SLICE(returned), SLICE(motives), 3);
+    REQUIRE(shows(shown, number, SHAYDHOQEL_OPENING, SHAYDHOQEL_NOWHERE, 0));
+    REQUIRE(not_opened(shaydhoqel_reasons(date, false, SLICE(bad), 402, SLICE(returned), SLICE(motives), SLICE(texts)), number));
+    REQUIRE(all(JUNK, (const uint8_t *)texts, sizeof texts));
     REQUIRE(all(JUNK, (const uint8_t *)answer, sizeof answer) && all(JUNK, (const uint8_t *)figures, sizeof figures));
     REQUIRE(all(JUNK, SLICE(listing_out)) && all(JUNK, SLICE(file_out)) && all(JUNK, SLICE(tray_out)));
 }
@@ -235,12 +274,63 @@ static void builds(void) {
     REQUIRE(all(' ', file_out, L_LENGTH) && all(JUNK, file_out + L_LENGTH, sizeof file_out - L_LENGTH));
 }
 
+static void receives(void) {
+    static uint8_t changed[sizeof returned];
+    memcpy(changed, returned, sizeof changed);
+    REQUIRE(says(shaydhoqel_receive(OPENING, 402, SLICE(returned)), SHAYDHOQEL_ACCEPTED, RETURNED));
+    REQUIRE(says(shaydhoqel_receive(OPENING, 404, NULL, 0), SHAYDHOQEL_REFUSED_ENTITY, 0));
+    REQUIRE(says(shaydhoqel_receive(OPENING, 402, NULL, 0), SHAYDHOQEL_REFUSED_LENGTH, 0));
+    REQUIRE(says(shaydhoqel_receive(OPENING, 401, SLICE(returned)), SHAYDHOQEL_REFUSED_FORMAT, 0));
+    REQUIRE(says(shaydhoqel_receive(OPENING, 402, SLICE(l)), SHAYDHOQEL_REFUSED_FORMAT, 0));
+    REQUIRE(says(shaydhoqel_read(OPENING, SLICE(returned)), SHAYDHOQEL_REFUSED_FORMAT, 0));
+    changed[4 * SHAYDHOQEL_RECORD + 6] = '3';
+    REQUIRE(says(shaydhoqel_receive(OPENING, 402, SLICE(changed)), SHAYDHOQEL_REFUSED_FORMAT, 4));
+    changed[2 * SHAYDHOQEL_RECORD - 1] = '2';
+    REQUIRE(says(shaydhoqel_receive(OPENING, 402, SLICE(changed)), SHAYDHOQEL_REFUSED_FORMAT, 1));
+}
+
+static void shows_reasons(void) {
+    const uint64_t in_file = 3 * SHAYDHOQEL_RECORD + 35, line = 29 * SHAYDHOQEL_TEXT;
+    const size_t cut = sizeof returned - SHAYDHOQEL_RECORD;
+    REQUIRE(shows(shaydhoqel_show(OPENING, 402, SLICE(returned), SLICE(motives), 3), 0, SHAYDHOQEL_TEXT, SHAYDHOQEL_IN_FILE, in_file));
+    REQUIRE(memcmp(returned + in_file, reason, SHAYDHOQEL_TEXT) == 0);
+    REQUIRE(shows(shaydhoqel_show(OPENING, 402, SLICE(returned), SLICE(motives), 5), 0, SHAYDHOQEL_TEXT, SHAYDHOQEL_IN_MOTIVES, line));
+    REQUIRE(shows(shaydhoqel_show(OPENING, 404, NULL, 0, NULL, 0, 3), SHAYDHOQEL_REFUSED_ENTITY, 0, SHAYDHOQEL_NOWHERE, 0));
+    REQUIRE(shows(shaydhoqel_show(OPENING, 402, NULL, 0, NULL, 0, 3), SHAYDHOQEL_REFUSED_TRAY, 0, SHAYDHOQEL_NOWHERE, 0));
+    REQUIRE(shows(shaydhoqel_show(OPENING, 402, returned, cut, SLICE(motives), 3), SHAYDHOQEL_REFUSED_FORMAT, 7, SHAYDHOQEL_NOWHERE, 0));
+    const uint64_t others[] = {0, 1, 2, 4, 6, 7, RETURNED, UINT64_MAX};
+    for (size_t i = 0; i < sizeof others / sizeof others[0]; i++) {
+        struct shaydhoqel_shown shown = shaydhoqel_show(OPENING, 402, SLICE(returned), SLICE(motives), others[i]);
+        REQUIRE(shows(shown, SHAYDHOQEL_REFUSED_REASON, 0, SHAYDHOQEL_NOWHERE, 0));
+    }
+}
+
+/* Two numbers for each record, as far as there is room for both, and behind them what was there before. */
+static void all_reasons(void) {
+    uint64_t texts[2 * RETURNED + 3], expected[2 * RETURNED] = {0};
+    expected[6] = SHAYDHOQEL_IN_FILE, expected[7] = 3 * SHAYDHOQEL_RECORD + 35;
+    expected[10] = SHAYDHOQEL_IN_MOTIVES, expected[11] = 29 * SHAYDHOQEL_TEXT;
+    for (size_t lent = 0; lent <= sizeof texts / sizeof texts[0]; lent++) {
+        size_t written = lent < 2 * RETURNED ? lent / 2 * 2 : 2 * RETURNED;
+        memset(texts, JUNK, sizeof texts);
+        REQUIRE(says(shaydhoqel_reasons(OPENING, 402, SLICE(returned), SLICE(motives), texts, lent), SHAYDHOQEL_ACCEPTED, RETURNED));
+        REQUIRE(memcmp(texts, expected, written * sizeof *texts) == 0);
+        REQUIRE(all(JUNK, (const uint8_t *)(texts + written), sizeof texts - written * sizeof *texts));
+    }
+    memset(texts, JUNK, sizeof texts);
+    REQUIRE(says(shaydhoqel_reasons(OPENING, 402, SLICE(returned), NULL, 0, SLICE(texts)), SHAYDHOQEL_REFUSED_TRAY, 0));
+    REQUIRE(says(shaydhoqel_reasons(OPENING, 402, SLICE(l), SLICE(motives), SLICE(texts)), SHAYDHOQEL_REFUSED_FORMAT, 0));
+    REQUIRE(all(JUNK, (const uint8_t *)texts, sizeof texts));
+    REQUIRE(says(shaydhoqel_reasons(OPENING, 402, SLICE(returned), SLICE(motives), NULL, 0), SHAYDHOQEL_ACCEPTED, RETURNED));
+}
+
 int main(int argc, char **argv) {
     FILE *sample = argc == 2 ? fopen(argv[1], "rb") : NULL;
     REQUIRE(sample != NULL);
     REQUIRE(fread(l, 1, L_LENGTH, sample) == L_LENGTH && fgetc(sample) == EOF);
     fclose(sample);
     make_tray();
+    make_returned();
     reads();
     day_with_the_file_twice();
     empty_days();
@@ -248,5 +338,8 @@ int main(int argc, char **argv) {
     extracts();
     strips();
     builds();
+    receives();
+    shows_reasons();
+    all_reasons();
     return 0;
 }

@@ -16,6 +16,8 @@
 /* An identifier for each digit and capital. */
 #define FILES 36
 #define IDENTIFIERS "0123456789ABCDEFGHIJKLMNOPQRSTUVWXYZ"
+/* Records of the longest file. */
+#define RECORDS 10000
 
 /* Bytes of a stack that the call leaves to the thread and its caller; the stack on which that is measured, and what it is filled with. */
 #define MARGIN 16384
@@ -31,6 +33,9 @@ static uint8_t header[SHAYDHOQEL_RECORD];
 static uint8_t tray[9997 * SHAYDHOQEL_TRAY_RECORD], many_tray[6664 * SHAYDHOQEL_TRAY_RECORD], long_tray[SHAYDHOQEL_TRAY_ROOM];
 static uint8_t file[SHAYDHOQEL_FILE_LIMIT], many[SHAYDHOQEL_FILE_LIMIT], files[FILES * SHAYDHOQEL_FILE_LIMIT];
 static size_t many_length;
+
+/* An extract of rejections, from a tray of as many as can be, every other with a text of its own; and a motive list. */
+static uint8_t rejected[9997 * SHAYDHOQEL_TRAY_RECORD], returned[SHAYDHOQEL_FILE_LIMIT], motives[SHAYDHOQEL_MOTIVES];
 static uint64_t ends[FILES];
 
 /* What makes a file refused at its last individual but one, by a byte at a position from 1. */
@@ -47,12 +52,16 @@ static const struct {
 #define FAULTS (sizeof faults / sizeof faults[0])
 #define FAULTY 9997
 
+/* The last rejection of the extract, whose additional stands behind it. */
+#define LAST_REJECTION 9996
+
 /* What a thread lends, its own. */
 struct lent {
     uint8_t out[SHAYDHOQEL_TRAY_ROOM], listing[SHAYDHOQEL_LISTING];
     uint8_t changed[SHAYDHOQEL_TRAY_ROOM];
     uint64_t answers[2 * FILES];
     int64_t figures[FIGURES];
+    uint64_t texts[2 * RECORDS];
 };
 
 /* No assert: that may be compiled out. */
@@ -91,7 +100,7 @@ static uint64_t place_of(size_t i) {
 
 static uint64_t job_read(struct lent *lent) {
     uint64_t sum = 0;
-    heard(&sum, shaydhoqel_read(OPENING, file, sizeof file), 0, 10000);
+    heard(&sum, shaydhoqel_read(OPENING, file, sizeof file), 0, RECORDS);
     heard(&sum, shaydhoqel_read(OPENING, many, many_length), 0, many_length / SHAYDHOQEL_RECORD);
     heard(&sum, shaydhoqel_read(OPENING, files, sizeof file + 1), SHAYDHOQEL_REFUSED_LENGTH, 0);
     heard(&sum, shaydhoqel_read(OPENING, file, sizeof file - SHAYDHOQEL_RECORD), SHAYDHOQEL_REFUSED_FORMAT, 9999);
@@ -203,6 +212,60 @@ static uint64_t job_strip(struct lent *lent) {
     return sum;
 }
 
+static uint64_t job_receive(struct lent *lent) {
+    uint64_t sum = 0;
+    heard(&sum, shaydhoqel_receive(OPENING, 402, returned, sizeof returned), 0, RECORDS);
+    heard(&sum, shaydhoqel_receive(OPENING, 402, returned, sizeof returned - 1), SHAYDHOQEL_REFUSED_LENGTH, 0);
+    heard(&sum, shaydhoqel_receive(OPENING, 403, returned, sizeof returned), SHAYDHOQEL_REFUSED_FORMAT, 0);
+    heard(&sum, shaydhoqel_receive(OPENING, 404, returned, sizeof returned), SHAYDHOQEL_REFUSED_ENTITY, 0);
+    memcpy(lent->changed, returned, sizeof returned);
+    lent->changed[LAST_REJECTION * SHAYDHOQEL_RECORD + 6] = '3';
+    heard(&sum, shaydhoqel_receive(OPENING, 402, lent->changed, sizeof returned), SHAYDHOQEL_REFUSED_FORMAT, LAST_REJECTION);
+    return sum;
+}
+
+static void shown(uint64_t *sum, struct shaydhoqel_shown answer, uint64_t number, uint64_t source, uint64_t at) {
+    REQUIRE(answer.number == number && answer.source == source && answer.at == at);
+    add(sum, &answer, sizeof answer);
+}
+
+static uint64_t job_show(struct lent *lent) {
+    uint64_t sum = 0;
+    const uint64_t last = LAST_REJECTION + 1, in_file = (last - 2) * SHAYDHOQEL_RECORD + 35, line = 99 * SHAYDHOQEL_TEXT;
+    const size_t length = sizeof returned, lines = sizeof motives;
+    (void)lent;
+    shown(&sum, shaydhoqel_show(OPENING, 402, returned, length, motives, lines, last), 0, SHAYDHOQEL_IN_MOTIVES, line);
+    shown(&sum, shaydhoqel_show(OPENING, 402, returned, length, motives, lines, last - 2), 0, SHAYDHOQEL_IN_FILE, in_file);
+    shown(&sum, shaydhoqel_show(OPENING, 402, returned, length, motives, lines, last + 1), SHAYDHOQEL_REFUSED_REASON, 0, 0);
+    shown(&sum, shaydhoqel_show(OPENING, 402, returned, length, motives, lines - 1, last), SHAYDHOQEL_REFUSED_TRAY, 0, 0);
+    shown(&sum, shaydhoqel_show(OPENING, 402, file, sizeof file, motives, lines, last), SHAYDHOQEL_REFUSED_FORMAT, 0, 0);
+    return sum;
+}
+
+/* Of every record of `returned`, in turn, whether its text is said to stand where it does. */
+static void texts_stand(const uint64_t *texts) {
+    for (size_t i = 0; i < RECORDS; i++) {
+        bool additional = 2 < i && i <= LAST_REJECTION + 1 && i % 2 == 1;
+        uint64_t source = i % 4 == 3 ? SHAYDHOQEL_IN_FILE : SHAYDHOQEL_IN_MOTIVES;
+        REQUIRE(texts[2 * i] == (additional ? source : SHAYDHOQEL_NOWHERE));
+    }
+}
+
+static uint64_t job_reasons(struct lent *lent) {
+    uint64_t sum = 0;
+    heard(&sum, shaydhoqel_reasons(OPENING, 402, returned, sizeof returned, motives, sizeof motives, lent->texts, 2 * RECORDS), 0,
+          RECORDS);
+    texts_stand(lent->texts);
+    add(&sum, lent->texts, sizeof lent->texts);
+    heard(&sum, shaydhoqel_reasons(OPENING, 402, file, sizeof file, motives, sizeof motives, lent->texts, 2 * RECORDS),
+          SHAYDHOQEL_REFUSED_FORMAT, 0);
+    heard(&sum, shaydhoqel_reasons(OPENING, 402, file, sizeof file, NULL, 0, lent->texts, 2 * RECORDS), SHAYDHOQEL_REFUSED_TRAY, 0);
+    /* a refusal leaves them */
+    texts_stand(lent->texts);
+    add(&sum, lent->texts, sizeof lent->texts);
+    return sum;
+}
+
 static const struct job {
     const char *name;
     uint64_t (*run)(struct lent *);
@@ -215,6 +278,9 @@ static const struct job {
     {"extract", job_extract, SHAYDHOQEL_STACK_EXTRACT},
     {"build", job_build, SHAYDHOQEL_STACK_BUILD},
     {"strip", job_strip, SHAYDHOQEL_STACK_STRIP},
+    {"receive", job_receive, SHAYDHOQEL_STACK_RECEIVE},
+    {"show", job_show, SHAYDHOQEL_STACK_SHOW},
+    {"reasons", job_reasons, SHAYDHOQEL_STACK_REASONS},
 };
 #define JOBS (sizeof jobs / sizeof jobs[0])
 
@@ -305,6 +371,24 @@ static void put(uint8_t *to, const char *mark, const uint8_t *body) {
     memset(to + 89, '0', 7);
 }
 
+/* Rejections of one debit, all in one batch. */
+static void make_returned(const uint8_t *batch, const uint8_t *individual) {
+    char body[SHAYDHOQEL_RECORD + 1];
+    put(rejected, "LO", batch);
+    for (size_t i = 0; i < 4998; i++) {
+        uint8_t *to = rejected + (2 * i + 1) * SHAYDHOQEL_TRAY_RECORD;
+        put(to, "IN", individual);
+        memcpy(to + 3, i % 2 == 0 ? "36" : "31", 2);
+        to[80] = '1';
+        snprintf(body, sizeof body, "799R%02d%015d      04010001%-44s040100010000000", i % 2 == 0 ? 10 : 99, 1,
+                 i % 2 == 0 ? "SIN FONDOS" : "");
+        put(to + SHAYDHOQEL_TRAY_RECORD, "AD", (const uint8_t *)body);
+    }
+    REQUIRE(shaydhoqel_build(OPENING, header, sizeof header, rejected, sizeof rejected, many, sizeof many).place == sizeof many);
+    REQUIRE(shaydhoqel_extract(OPENING, 402, many, sizeof many, returned, sizeof returned).place == sizeof returned);
+    memset(motives, '.', sizeof motives);
+}
+
 static void make_inputs(const uint8_t *l) {
     const uint8_t *batch = l + SHAYDHOQEL_RECORD, *individual = l + 2 * SHAYDHOQEL_RECORD;
     memcpy(header, l, sizeof header);
@@ -312,6 +396,7 @@ static void make_inputs(const uint8_t *l) {
         put(long_tray + i * SHAYDHOQEL_TRAY_RECORD, i == 0 ? "LO" : "IN", i == 0 ? batch : individual);
     }
     memcpy(tray, long_tray, sizeof tray);
+    make_returned(batch, individual);
     for (size_t i = 0; i < sizeof many_tray / SHAYDHOQEL_TRAY_RECORD; i++) {
         put(many_tray + i * SHAYDHOQEL_TRAY_RECORD, i % 2 == 0 ? "LO" : "IN", i % 2 == 0 ? batch : individual);
     }

@@ -1,6 +1,6 @@
 //! Does the calls of a plan on the files of this folder, and prints each with its answer. Usage: reach < PLAN
 
-use desk::{Cell, Currency, Day, Opening, Place, Refusal};
+use desk::{Cell, Currency, Day, Opening, Place, Reason, Refusal};
 use std::error::Error;
 use std::fs;
 use std::io::{self, BufRead, Write};
@@ -33,8 +33,17 @@ fn written(room: &str, job: impl FnOnce(&mut [u8]) -> Result<usize, Refusal>) ->
     Ok(format!("{answer} {}", digest(&out)))
 }
 
-fn listed(text: Vec<u8>) -> String {
-    format!("0 {} {}", text.len(), digest(&text))
+fn listed(text: impl AsRef<[u8]>) -> String {
+    let text = text.as_ref();
+    format!("0 {} {}", text.len(), digest(text))
+}
+
+fn explained(reasons: Vec<Reason>) -> String {
+    let each = reasons.iter().map(|reason| {
+        let (record, number, text) = (reason.record, reason.number, digest(reason.text));
+        format!(" {record}:R{number:02} {text}")
+    });
+    format!("0 {}{}", reasons.len(), each.collect::<String>())
 }
 
 fn day(day: Day) -> String {
@@ -76,6 +85,28 @@ fn opened(job: &str, opening: Opening, words: &[&str]) -> Answer {
                 _ => opening.day_listing(&files).map(listed),
             };
             Ok(answer.unwrap_or_else(refused))
+        }
+        _ => received(job, opening, words),
+    }
+}
+
+/// The answer to a job of a member's desk in a session.
+fn received(job: &str, opening: Opening, words: &[&str]) -> Answer {
+    match (job, words) {
+        ("receive", [entity, file]) => {
+            let entity = entity.parse()?;
+            Ok(counted(opening.receive(entity, &fs::read(file)?)))
+        }
+        ("show", [entity, file, motives, record]) => {
+            let (entity, record) = (entity.parse()?, record.parse()?);
+            let (file, motives) = (fs::read(file)?, fs::read(motives)?);
+            let text = opening.show(entity, &file, &motives, record);
+            Ok(text.map_or_else(refused, listed))
+        }
+        ("reasons", [entity, file, motives]) => {
+            let (entity, file, motives) = (entity.parse()?, fs::read(file)?, fs::read(motives)?);
+            let reasons = opening.reasons(entity, &file, &motives);
+            Ok(reasons.map_or_else(refused, explained))
         }
         _ => Err("no such call".into()),
     }

@@ -13,8 +13,9 @@
 `bash bindings/library` writes the library, libshaydhoqel.so. It is looked for beside this file, in ../target/library and in ../../../lib
 from here, or is the file that the environment names as SHAYDHOQEL_LIBRARY.
 
-Files, trays and header bodies are bytes; any other buffer is copied first, so that no thread can change what the library reads. What is no
-number or no buffer is a TypeError before the call, a number of more than 64 bits an OverflowError. Calls let other threads run.
+Files, trays, header bodies and motive lists are bytes; any other buffer is copied first, so that no thread can change what the library
+reads. What is no number or no buffer is a TypeError before the call, a number of more than 64 bits an OverflowError. Calls let other
+threads run.
 """
 
 from __future__ import annotations
@@ -35,6 +36,9 @@ FILE_LIMIT = 940_000
 # Bytes of a tray's record, two for its mark; and of the longest tray of a file.
 TRAY_RECORD = 96
 TRAY_ROOM = 960_000
+# Bytes of the text of a reason, and of a motive list: one hundred lines, R00 first.
+TEXT = 44
+MOTIVES = 4_400
 # Entity numbers 0 to 499; nobody has number 0.
 ENTITIES = 500
 # Bytes of the longest listing.
@@ -44,6 +48,10 @@ POSITION = 0
 SENT = 1
 RECEIVED = 2
 FIGURES = 3
+# The source of a text, in what the calls say: none, positions 36-79 of its record, or the motive list.
+NOWHERE = 0
+IN_FILE = 1
+IN_MOTIVES = 2
 # The place of a refused opening, in what the calls say; None in a Refusal.
 OPENING = 18_446_744_073_709_551_615
 
@@ -56,6 +64,9 @@ STACK_LISTING = 196_608
 STACK_EXTRACT = 131_072
 STACK_BUILD = 131_072
 STACK_STRIP = 131_072
+STACK_RECEIVE = 131_072
+STACK_SHOW = 196_608
+STACK_REASONS = 196_608
 
 Buffer = Union[bytes, bytearray, memoryview]
 
@@ -90,9 +101,10 @@ class Fault(IntEnum):
     CURRENCY = 203, "entity of the other currency"
     ROSTER = 204, "entity not on the roster"
     ROOM = 206, "output buffer shorter than the output"
-    TRAY = 207, "tray or header body malformed"
-    ENTITY = 208, "entity number not 1 to 499, or, when extracting, not on the roster"
+    TRAY = 207, "tray or header body malformed, or motive list not 4,400 bytes"
+    ENTITY = 208, "entity number not 1 to 499, or, in a job for one entity, not on the roster"
     IDENTIFIER = 209, "identifier already accepted from this origin"
+    REASON = 214, "record asked for is not a rejection's additional record"
 
 
 class Refusal(Exception):
@@ -135,6 +147,16 @@ class Day:
 
     answers: Tuple[Optional[Refusal], ...]
     cells: Tuple[Cell, ...]
+
+
+@dataclass(frozen=True)
+class Reason:
+    """Why a debit came back: the additional record of the rejection, from 0, the R number in it, and the text, 44 bytes of the file or
+    of the motive list, as they stand."""
+
+    record: int
+    number: int
+    text: bytes
 
 
 @dataclass(frozen=True, init=False)
@@ -198,7 +220,32 @@ class Opening:
         """Writes the tray at the front of a buffer, and counts its bytes; the rest of the buffer stays. Where it is too short, 206."""
         return _counted(self._call("strip", *_lent(_bytes(file)), *_lent(_writable(out))))
 
-    def _call(self, job: str, *arguments: Any) -> _Spoken:
+    def receive(self, entity: int, file: Buffer) -> int:
+        """Reads an extract as the desk of its entity does, and counts its records; nothing is posted. Refused by 208, then as the reading
+        is, where another desk's header, a foreign destination or a wrong batch number is 17."""
+        return _counted(self._call("receive", _number(entity), *_lent(_bytes(file))))
+
+    def show(self, entity: int, file: Buffer, motives: Buffer, record: int) -> bytes:
+        """The text of the reason in one record of an extract, the additional record of a rejection: its positions 36-79 where they are
+        not all blank, otherwise the line of its R number in a motive list of 4,400 bytes. Refused by 208, then by 207 for a motive list of
+        another length, then as receiving is, then by 214 where the record is no such one."""
+        file, motives = _bytes(file), _bytes(motives)
+        shown = self._call("show", _number(entity), *_lent(file), *_lent(motives), _number(record))
+        _counted(shown)
+        return _text(shown.source, shown.at, file, motives)
+
+    def reasons(self, entity: int, file: Buffer, motives: Buffer) -> Tuple[Reason, ...]:
+        """The reasons in all records of an extract, in the order of the records. Refused as showing is, but for 214."""
+        file, motives = _bytes(file), _bytes(motives)
+        texts = (c_uint64 * (2 * (min(len(file), FILE_LIMIT) // RECORD)))()
+        _counted(self._call("reasons", _number(entity), *_lent(file), *_lent(motives), *_lent(texts)))
+        return tuple(
+            Reason(record, int(file[record * RECORD + 4 : record * RECORD + 6]), _text(source, at, file, motives))
+            for record, (source, at) in enumerate(zip(texts[0::2], texts[1::2]))
+            if source != NOWHERE
+        )
+
+    def _call(self, job: str, *arguments: Any) -> Any:
         entities = (c_uint64 * len(self.entities))(*self.entities)
         function = getattr(_LIBRARY, f"shaydhoqel_{job}")
         return function(self.date, self.currency is Currency.DOLLARS, *_lent(entities), *arguments)
@@ -212,6 +259,10 @@ def listing(file: Buffer) -> bytes:
 
 class _Spoken(ctypes.Structure):
     _fields_ = [("number", c_uint64), ("place", c_uint64)]
+
+
+class _Shown(ctypes.Structure):
+    _fields_ = [("number", c_uint64), ("place", c_uint64), ("source", c_uint64), ("at", c_uint64)]
 
 
 def _number(value: int) -> int:
@@ -249,7 +300,11 @@ def _refusal(number: int, place: int) -> Optional[Refusal]:
         raise RuntimeError(f"a library of another version: no refusal known here has number {number}") from None
 
 
-def _counted(said: _Spoken) -> int:
+def _text(source: int, at: int, file: bytes, motives: bytes) -> bytes:
+    return (file if source == IN_FILE else motives)[at : at + TEXT]
+
+
+def _counted(said: Union[_Spoken, _Shown]) -> int:
     refusal = _refusal(said.number, said.place)
     if refusal is not None:
         raise refusal
@@ -285,6 +340,9 @@ def _loaded() -> ctypes.CDLL:
         ("extract", _Spoken, opening + (c_uint64,) + read + written),
         ("build", _Spoken, opening + read + read + written),
         ("strip", _Spoken, opening + read + written),
+        ("receive", _Spoken, opening + (c_uint64,) + read),
+        ("show", _Shown, opening + (c_uint64,) + read + read + (c_uint64,)),
+        ("reasons", _Spoken, opening + (c_uint64,) + read + read + numbers),
     ):
         function = getattr(library, f"shaydhoqel_{job}")
         function.restype, function.argtypes = result, parameters

@@ -16,7 +16,7 @@ from dataclasses import FrozenInstanceError, replace
 from pathlib import Path
 
 import shaydhoqel
-from shaydhoqel import ENTITIES, FILE_LIMIT, RECORD, TRAY_RECORD, Cell, Currency, Fault, Opening, Refusal
+from shaydhoqel import ENTITIES, FILE_LIMIT, MOTIVES, RECORD, TEXT, TRAY_RECORD, Cell, Currency, Fault, Opening, Reason, Refusal
 
 HERE = Path(__file__).resolve().parent
 ROOT = HERE.parent.parent
@@ -36,10 +36,28 @@ DOLLARS = replace(OPENING, currency="dollars")
 JUNK = b"\xa5"
 # The longest file that can be built: 9,997 records of a tray, three that building adds.
 LONGEST_TRAY = TRAY[:TRAY_RECORD] + 9996 * TRAY[TRAY_RECORD : 2 * TRAY_RECORD]
+# The line of each R number is that number, in all its bytes.
+LINES = b"".join(bytes([number]) * TEXT for number in range(100))
 
 
 def identified(identifier, file=L):
     return file[:33] + identifier + file[34:]
+
+
+def rejection(code, number, text):
+    """Two records of a tray, the individual and its additional: case L's first debit comes back to 402."""
+    first = TRAY[TRAY_RECORD : 2 * TRAY_RECORD]
+    return first[:3] + code + first[5:80] + b"1" + first[81:] + b"AD799R%02d%015d      04010001%-44s040100010000000" % (number, 1, text)
+
+
+def returned(*rejections):
+    """What 402 is handed out of a file that case L's first batch and these in a second make."""
+    tray = TRAY[: 3 * TRAY_RECORD] + TRAY[:TRAY_RECORD] + b"".join(rejections)
+    return OPENING.extract(402, OPENING.build(HEADER, tray))
+
+
+# Of eleven records; the additional records of its rejections are at 6, with a text, and at 8.
+RETURNED = returned(rejection(b"36", 10, b"SIN FONDOS"), rejection(b"31", 29, b""))
 
 
 class Case(unittest.TestCase):
@@ -92,6 +110,39 @@ class Jobs(Case):
         self.refused(Fault.TRAY, 3, OPENING.build, HEADER, TRAY[: 3 * TRAY_RECORD] + b"XX" + TRAY[3 * TRAY_RECORD + 2 :])
         self.refused(Fault.LENGTH, 0, OPENING.build, HEADER, LONGEST_TRAY + TRAY[-TRAY_RECORD:])
 
+    def test_receive(self):
+        self.assertEqual(OPENING.receive(402, EXTRACT), 5)
+        self.assertEqual(OPENING.receive(402, RETURNED), 11)
+        for entity in 0, 404, 500, 2**64 - 1:
+            self.refused(Fault.ENTITY, 0, OPENING.receive, entity, EXTRACT)
+        self.refused(Fault.FORMAT, 0, OPENING.receive, 401, EXTRACT)
+        self.refused(Fault.FORMAT, 0, OPENING.receive, 402, L)
+        self.refused(Fault.FORMAT, 0, OPENING.read, EXTRACT)
+        foreign = EXTRACT[: 2 * RECORD + 6] + b"3" + EXTRACT[2 * RECORD + 7 :]
+        other_batch = EXTRACT[: 2 * RECORD - 1] + b"2" + EXTRACT[2 * RECORD :]
+        self.refused(Fault.FORMAT, 2, OPENING.receive, 402, foreign)
+        self.refused(Fault.FORMAT, 1, OPENING.receive, 402, other_batch)
+
+    def test_show(self):
+        self.assertEqual(OPENING.show(402, RETURNED, LINES, 6), b"SIN FONDOS".ljust(TEXT))
+        self.assertEqual(OPENING.show(402, RETURNED, LINES, 8), bytes([29]) * TEXT)
+        for record in 0, 1, 2, 3, 4, 5, 7, 9, 10, 11, 2**32, 2**64 - 1:
+            self.refused(Fault.REASON, 0, OPENING.show, 402, RETURNED, LINES, record)
+        cut = RETURNED[:-RECORD]
+        for motives in b"", LINES[1:], LINES + b" ":
+            self.refused(Fault.ENTITY, 0, OPENING.show, 404, cut, motives, 0)
+            self.refused(Fault.TRAY, 0, OPENING.show, 402, cut, motives, 0)
+        self.refused(Fault.FORMAT, 10, OPENING.show, 402, cut, LINES, 0)
+
+    def test_reasons(self):
+        reasons = Reason(6, 10, b"SIN FONDOS".ljust(TEXT)), Reason(8, 29, bytes([29]) * TEXT)
+        self.assertEqual(OPENING.reasons(402, RETURNED, LINES), reasons)
+        self.assertEqual(OPENING.reasons(402, EXTRACT, LINES), ())
+        self.refused(Fault.ENTITY, 0, OPENING.reasons, 404, b"", b"")
+        self.refused(Fault.TRAY, 0, OPENING.reasons, 402, b"", b"")
+        self.refused(Fault.LENGTH, 0, OPENING.reasons, 402, b"", LINES)
+        self.refused(Fault.FORMAT, 0, OPENING.reasons, 403, RETURNED, LINES)
+
     def test_the_longest_file(self):
         file = OPENING.build(HEADER, LONGEST_TRAY)
         self.assertEqual(len(file), FILE_LIMIT)
@@ -138,6 +189,9 @@ class Openings(Case):
                 (bad.extract, 402, L),
                 (bad.build, HEADER, TRAY),
                 (bad.strip, L),
+                (bad.receive, 402, EXTRACT),
+                (bad.show, 402, RETURNED, LINES, 6),
+                (bad.reasons, 402, RETURNED, LINES),
                 (bad.extract_into, 402, L, out),
                 (bad.build_into, HEADER, TRAY, out),
                 (bad.strip_into, L, out),
@@ -185,6 +239,11 @@ class Buffers(Case):
             self.assertEqual(OPENING.read(file), 10)
             self.assertEqual(OPENING.extract(402, file), EXTRACT)
             self.assertEqual(OPENING.day([file, L]).answers, (None, Refusal(209, 0)))
+        for kind in bytearray, memoryview:
+            extract, motives = kind(RETURNED), kind(LINES)
+            self.assertEqual(OPENING.receive(402, extract), 11)
+            self.assertEqual(OPENING.show(402, extract, motives, 8), bytes([29]) * TEXT)
+            self.assertEqual([type(reason.text) for reason in OPENING.reasons(402, extract, motives)], [bytes, bytes])
 
     def test_the_rest_stays(self):
         for job, *arguments, expected in (
@@ -215,11 +274,16 @@ class Buffers(Case):
             self.assertRaises(TypeError, OPENING.extract, 402, wrong)
             self.assertRaises(TypeError, OPENING.build, HEADER, wrong)
             self.assertRaises(TypeError, OPENING.day, [wrong])
+            self.assertRaises(TypeError, OPENING.receive, 402, wrong)
+            self.assertRaises(TypeError, OPENING.show, 402, RETURNED, wrong, 6)
+            self.assertRaises(TypeError, OPENING.reasons, 402, wrong, LINES)
         self.assertRaises(TypeError, OPENING.day, L)
         self.assertRaises(TypeError, OPENING.strip_into, L, bytes(1000))
         self.assertRaises(TypeError, OPENING.extract, "402", L)
         self.assertRaises(OverflowError, OPENING.extract, -1, L)
         self.assertRaises(OverflowError, OPENING.extract, 2**64, L)
+        self.assertRaises(OverflowError, OPENING.show, 402, RETURNED, LINES, 2**64)
+        self.assertRaises(TypeError, OPENING.show, 402, RETURNED, LINES, "6")
 
     def test_let_go_after_a_refusal(self):
         out = bytearray(1)
@@ -238,7 +302,7 @@ class Junk(Case):
     def test_ends_in_an_answer(self):
         chance = random.Random(17)
         for _ in range(300):
-            file = bytearray(chance.choice([L, TRAY, HEADER, bytes(188), chance.randbytes(chance.randrange(1000))]))
+            file = bytearray(chance.choice([L, TRAY, HEADER, EXTRACT, RETURNED, bytes(188), chance.randbytes(chance.randrange(1000))]))
             for _ in range(chance.randrange(4)):
                 if file:
                     file[chance.randrange(len(file))] = chance.randrange(256)
@@ -253,6 +317,22 @@ class Junk(Case):
                 self.assertEqual(OPENING.strip(OPENING.build(HEADER, file)), file)
             except Refusal as refusal:
                 self.assertFalse(refusal.opening)
+            self.shown_alike(file, LINES[: chance.choice([MOTIVES, MOTIVES, 0])])
+
+    def shown_alike(self, file, motives):
+        """Where the file is received, all reasons are those that are shown one by one; else both are refused alike."""
+        try:
+            reasons = OPENING.reasons(402, file, motives)
+            self.assertEqual(OPENING.receive(402, file), len(file) // RECORD)
+        except Refusal as refusal:
+            self.refused(refusal.number, refusal.place, OPENING.show, 402, file, motives, 6)
+            return
+        texts = {reason.record: reason.text for reason in reasons}
+        for record in range(len(file) // RECORD + 1):
+            if record in texts:
+                self.assertEqual(OPENING.show(402, file, motives, record), texts[record])
+            else:
+                self.refused(Fault.REASON, 0, OPENING.show, 402, file, motives, record)
 
 
 def on_thread(stack, job):
@@ -272,6 +352,7 @@ class Threads(Case):
     @classmethod
     def setUpClass(cls):
         cls.file = OPENING.build(HEADER, LONGEST_TRAY)
+        cls.returned = returned(2498 * rejection(b"36", 10, b"SIN FONDOS"), 2498 * rejection(b"31", 29, b""))
         cls.jobs = {
             "READ": lambda: OPENING.read(cls.file),
             "DAY": lambda: OPENING.day([cls.file, L, identified(b"Z", cls.file)]),
@@ -280,6 +361,9 @@ class Threads(Case):
             "EXTRACT": lambda: OPENING.extract(402, cls.file),
             "BUILD": lambda: OPENING.build(HEADER, LONGEST_TRAY),
             "STRIP": lambda: OPENING.strip(cls.file),
+            "RECEIVE": lambda: OPENING.receive(402, cls.returned),
+            "SHOW": lambda: OPENING.show(402, cls.returned, LINES, 9996),
+            "REASONS": lambda: OPENING.reasons(402, cls.returned, LINES),
         }
         cls.alone = {name: job() for name, job in cls.jobs.items()}
 
@@ -293,7 +377,7 @@ class Threads(Case):
         wrong = []
 
         def turns(first):
-            for turn in range(14):
+            for turn in range(2 * len(names)):
                 name = names[(first + turn) % len(names)]
                 if self.jobs[name]() != self.alone[name]:
                     wrong.append(name)
@@ -312,6 +396,7 @@ C_TYPES = {
     "bool": ctypes.c_bool,
     "size_t": ctypes.c_size_t,
     "struct shaydhoqel_spoken": shaydhoqel._Spoken,
+    "struct shaydhoqel_shown": shaydhoqel._Shown,
     "const uint64_t *": ctypes.POINTER(ctypes.c_uint64),
     "uint64_t *": ctypes.POINTER(ctypes.c_uint64),
     "int64_t *": ctypes.POINTER(ctypes.c_int64),
@@ -334,10 +419,12 @@ class Header(Case):
                 types = [re.sub(r"\b\w+(\[\w+\])?$", r"\1", part.strip()).strip() for part in parameters.split(",")]
                 self.assertEqual(list(function.argtypes), [C_TYPES[name] for name in types])
 
-    def test_struct(self):
-        (fields,) = re.findall(r"struct shaydhoqel_spoken \{(.*?)\}", self.header, flags=re.DOTALL)
-        fields = [field.split() for field in fields.split(";") if field.strip()]
-        self.assertEqual(shaydhoqel._Spoken._fields_, [(name, C_TYPES[kind]) for kind, name in fields])
+    def test_structs(self):
+        structs = re.findall(r"(struct \w+) \{(.*?)\}", self.header, flags=re.DOTALL)
+        self.assertEqual([C_TYPES[name] for name, _ in structs], [shaydhoqel._Spoken, shaydhoqel._Shown])
+        for struct, fields in structs:
+            fields = [field.split() for field in fields.split(";") if field.strip()]
+            self.assertEqual(C_TYPES[struct]._fields_, [(name, C_TYPES[kind]) for kind, name in fields])
 
 
 class Found(Case):

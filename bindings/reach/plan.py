@@ -1,4 +1,4 @@
-"""Writes twenty files, and to standard output a plan: calls on them, one a line, as reach.c, reach.rs and reach.py do them.
+"""Writes files, and to standard output a plan: calls on them, one a line, as reach.c, reach.rs and reach.py do them.
 Usage: python3 plan.py FOLDER"""
 
 import sys
@@ -55,6 +55,41 @@ def twenty():
     }
 
 
+def rejections(extract, dollars=0):
+    """The extract of one debit of 125 pesos, with two that come back in its place: a 36 with a reason, and a 31 without."""
+    header, batch, debit, control, file_control = (extract[start : start + RECORD] for start in range(0, len(extract), RECORD))
+    reason = b"799R%02d%015d      04010001%-44s0401000100000%02d"
+    entity, sender = b"%04d" % (402 + dollars), b"%04d" % (401 + dollars)
+    totals = b"%010d%012d%012d" % (2 * int(entity + b"0001"), 12500, 12500)
+    return changed(
+        header + batch + debit + reason % (10, 1, b"SIN FONDOS", 1) + debit + reason % (29, 2, b"", 2) + control + file_control,
+        *((0, 5, entity), (1, 80, sender), (6, 80, sender)),
+        *((2, 2, b"36"), (2, 4, entity), (2, 79, b"1"), (2, 80, sender), (3, 80, sender)),
+        *((4, 2, b"31"), (4, 4, entity), (4, 79, b"1"), (4, 80, sender), (4, 94, b"2"), (5, 80, sender)),
+        *((6, 5, b"000004" + totals), (7, 8, b"000001%08d" % 4 + totals)),
+    )
+
+
+def handed_out():
+    """By name. What is said is the answer on receiving by 402 in pesos."""
+    extract = sample("extract-402.txt")
+    returned = rejections(extract)
+    return {
+        "extract": extract,  # accepted, and the next too
+        "returned": returned,
+        "returned-dollars": rejections(extract, dollars=500),  # 17 at 0, and accepted in dollars
+        "foreign": changed(returned, (4, 4, b"0403")),  # 17 at 4
+        "second-batch": changed(returned, (1, 94, b"2")),  # 17 at 1
+        "no-reason": changed(returned, (5, 4, b" ")),  # 17 at 5
+        "last-byte": changed(returned, (5, 79, b".")),  # accepted, and the reason is that byte alone
+    }
+
+
+def motive_lists():
+    lines = b"".join(b"%-44s" % (b"R%02d, MOTIVO %d" % (number, number * number)) for number in range(100))
+    return {"motives": lines, "motives-short": lines[1:], "motives-long": lines + b" ", "motives-none": b""}
+
+
 OPENINGS = (
     "250630 pesos 401,402,403",
     "250630 dollars 403,402,401,401",
@@ -64,6 +99,20 @@ OPENINGS = (
     "18446744073709551615 dollars 0",
 )
 ENTITIES = (401, 402, 404, 0, 500, 18446744073709551615)
+
+
+def member_plan(names, handed, lists):
+    for opening in OPENINGS:
+        for name in names + handed:
+            for entity in ENTITIES:
+                yield f"receive {opening} {entity} {name}"
+        for name in handed + ["case-l", "empty"]:
+            for record in (*range(9), 18446744073709551615):
+                yield f"show {opening} 402 {name} motives {record}"
+            for motives in lists:
+                yield f"show {opening} 402 {name} {motives} 5"
+                for entity in 401, 402, 404:
+                    yield f"reasons {opening} {entity} {name} {motives}"
 
 
 def plan(names):
@@ -91,9 +140,9 @@ def plan(names):
 
 if __name__ == "__main__":
     folder = Path(sys.argv[1])
-    files = twenty()
+    files, handed, lists = twenty(), handed_out(), motive_lists()
     headers = {"header": sample("header.txt"), "dollars-header": files["dollars"][:RECORD]}
-    for name, text in {**files, **headers}.items():
+    for name, text in {**files, **headers, **handed, **lists}.items():
         (folder / name).write_bytes(text)
-    for line in plan(list(files)):
+    for line in (*plan(list(files)), *member_plan(list(files), list(handed), list(lists))):
         print(line)

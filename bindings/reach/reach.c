@@ -165,6 +165,61 @@ static void reads(const struct opening *opening, char **words) {
     free(file.bytes);
 }
 
+static void receive(const struct opening *opening, char **words) {
+    struct bytes file = load_one(words[1]);
+    print_answer(shaydhoqel_receive(OPENED(opening), strtoull(words[0], NULL, 10), LENT(file)));
+    free(file.bytes);
+}
+
+/* The text that begins at a byte of its source. */
+static void print_text(uint64_t source, uint64_t at, struct bytes file, struct bytes motives) {
+    print_digest((source == SHAYDHOQEL_IN_FILE ? file.bytes : motives.bytes) + at, SHAYDHOQEL_TEXT);
+}
+
+static void show(const struct opening *opening, char **words) {
+    struct bytes file = load_one(words[1]), motives = load_one(words[2]);
+    uint64_t entity = strtoull(words[0], NULL, 10), record = strtoull(words[3], NULL, 10);
+    struct shaydhoqel_shown shown = shaydhoqel_show(OPENED(opening), entity, LENT(file), LENT(motives), record);
+    print_answer((struct shaydhoqel_spoken){shown.number, shown.place});
+    if (shown.number == 0) {
+        print_text(shown.source, shown.at, file, motives);
+    }
+    free(file.bytes);
+    free(motives.bytes);
+}
+
+static void print_reasons(struct bytes file, struct bytes motives, const uint64_t *texts, size_t records) {
+    size_t reasons = 0;
+    for (size_t i = 0; i < records; i++) {
+        reasons += texts[2 * i] != SHAYDHOQEL_NOWHERE;
+    }
+    printf("0 %zu", reasons);
+    for (size_t i = 0; i < records; i++) {
+        if (texts[2 * i] != SHAYDHOQEL_NOWHERE) {
+            printf(" %zu:%.3s", i, (const char *)file.bytes + i * SHAYDHOQEL_RECORD + 3);
+            print_text(texts[2 * i], texts[2 * i + 1], file, motives);
+        }
+    }
+}
+
+static void reasons(const struct opening *opening, char **words) {
+    struct bytes file = load_one(words[1]), motives = load_one(words[2]);
+    size_t records = file.length / SHAYDHOQEL_RECORD;
+    uint64_t entity = strtoull(words[0], NULL, 10), *texts = calloc(2 * records + 1, sizeof *texts);
+    if (texts == NULL) {
+        stop("so much memory");
+    }
+    struct shaydhoqel_spoken said = shaydhoqel_reasons(OPENED(opening), entity, LENT(file), LENT(motives), texts, 2 * records);
+    if (said.number == 0) {
+        print_reasons(file, motives, texts, said.place);
+    } else {
+        print_answer(said);
+    }
+    free(texts);
+    free(file.bytes);
+    free(motives.bytes);
+}
+
 static void run(char **words, size_t count) {
     if (strcmp(words[0], "listing") == 0) {
         listing(words[1]);
@@ -184,6 +239,12 @@ static void run(char **words, size_t count) {
         build(&opening, rest);
     } else if (strcmp(words[0], "strip") == 0) {
         strip(&opening, rest);
+    } else if (strcmp(words[0], "receive") == 0) {
+        receive(&opening, rest);
+    } else if (strcmp(words[0], "show") == 0) {
+        show(&opening, rest);
+    } else if (strcmp(words[0], "reasons") == 0) {
+        reasons(&opening, rest);
     } else {
         stop(words[0]);
     }

@@ -45,6 +45,10 @@ def listed(text):
     return f"0 {len(text)} {digest(text)}"
 
 
+def explained(reasons):
+    return " ".join([f"0 {len(reasons)}", *(f"{reason.record}:R{reason.number:02} {digest(reason.text)}" for reason in reasons)])
+
+
 def done(job, words):
     """The answer to one call."""
     file = lambda name: Path(name).read_bytes()
@@ -63,6 +67,12 @@ def done(job, words):
             return f"0 {opening.read(file(rest[0]))}"
         if job == "day":
             return answers(opening, map(file, rest))
+        if job == "receive":
+            return f"0 {opening.receive(int(rest[0]), file(rest[1]))}"
+        if job == "show":
+            return listed(opening.show(int(rest[0]), file(rest[1]), file(rest[2]), int(rest[3])))
+        if job == "reasons":
+            return explained(opening.reasons(int(rest[0]), file(rest[1]), file(rest[2])))
         return listed(opening.day_listing(map(file, rest)))
     except Refusal as refusal:
         return refused(refusal)

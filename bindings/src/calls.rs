@@ -17,6 +17,17 @@ pub struct Spoken {
     pub place: u64,
 }
 
+/// An answer on the text of a reason: two numbers as above, the count being the bytes of the text; then its source, one of
+/// [`NOWHERE`](crate::NOWHERE), [`IN_FILE`](crate::IN_FILE) and [`IN_MOTIVES`](crate::IN_MOTIVES), and the byte of that where it begins.
+#[repr(C)]
+#[derive(Clone, Copy, Debug, PartialEq, Eq)]
+pub struct Shown {
+    pub number: u64,
+    pub place: u64,
+    pub source: u64,
+    pub at: u64,
+}
+
 // A slice is two arguments, its pointer and its length: as one argument of sixteen bytes it would go to the stack whole where one
 // register is left.
 unsafe extern "C" {
@@ -93,9 +104,46 @@ unsafe extern "C" {
         out: *mut u8,
         out_length: usize,
     ) -> Spoken;
+
+    fn shaydhoqel_receive(
+        date: u64,
+        dollars: bool,
+        entities: *const u64,
+        entities_length: usize,
+        entity: u64,
+        file: *const u8,
+        file_length: usize,
+    ) -> Spoken;
+
+    fn shaydhoqel_show(
+        date: u64,
+        dollars: bool,
+        entities: *const u64,
+        entities_length: usize,
+        entity: u64,
+        file: *const u8,
+        file_length: usize,
+        motives: *const u8,
+        motives_length: usize,
+        record: u64,
+    ) -> Shown;
+
+    fn shaydhoqel_reasons(
+        date: u64,
+        dollars: bool,
+        entities: *const u64,
+        entities_length: usize,
+        entity: u64,
+        file: *const u8,
+        file_length: usize,
+        motives: *const u8,
+        motives_length: usize,
+        texts: *mut u64,
+        texts_length: usize,
+    ) -> Spoken;
 }
 
-/// A call that begins with an opening: plain arguments, then slices as pointer and length, then what is written.
+/// A call that begins with an opening: plain arguments, then slices as pointer and length, then what is left.
 macro_rules! opened {
     ($job:ident, $opening:expr, [$($plain:expr),*], [$($slice:expr),*] $(, $out:expr)*) => {
         $job(
@@ -179,4 +227,36 @@ pub fn strip(opening: &Opening, file: &[u8], out: &mut [u8]) -> Spoken {
     let (lent, length) = (out.as_mut_ptr(), out.len());
     // SAFETY: as for a day.
     unsafe { opened!(shaydhoqel_strip, opening, [], [file], lent, length) }
+}
+
+pub fn receive(opening: &Opening, entity: u64, file: &[u8]) -> Spoken {
+    // SAFETY: as for reading.
+    unsafe { opened!(shaydhoqel_receive, opening, [entity], [file]) }
+}
+
+pub fn show(opening: &Opening, entity: u64, file: &[u8], motives: &[u8], record: u64) -> Shown {
+    // SAFETY: as for reading.
+    unsafe { opened!(shaydhoqel_show, opening, [entity], [file, motives], record) }
+}
+
+/// The source of record `i` stands in `texts[2 * i]` and its byte behind it, where there is room for both.
+pub fn reasons(
+    opening: &Opening,
+    entity: u64,
+    file: &[u8],
+    motives: &[u8],
+    texts: &mut [u64],
+) -> Spoken {
+    let (texts, texts_length) = (texts.as_mut_ptr(), texts.len());
+    // SAFETY: as for a day.
+    unsafe {
+        opened!(
+            shaydhoqel_reasons,
+            opening,
+            [entity],
+            [file, motives],
+            texts,
+            texts_length
+        )
+    }
 }

@@ -32,7 +32,7 @@ mod refusal;
 
 use std::convert::Infallible;
 
-pub use opening::{Cell, Currency, Day, Opening};
+pub use opening::{Cell, Currency, Day, Opening, Reason};
 pub use refusal::{Fault, Place, Refusal, UnknownNumber};
 
 /// Bytes of a record.
@@ -46,6 +46,12 @@ pub const TRAY_RECORD: usize = 96;
 
 /// Bytes of a buffer with room for the tray of every file.
 pub const TRAY_ROOM: usize = 960_000;
+
+/// Bytes of the text of a reason.
+pub const TEXT: usize = 44;
+
+/// Bytes of a motive list: one hundred lines, R00 first.
+pub const MOTIVES: usize = 4_400;
 
 /// Entity numbers 0 to 499; nobody has number 0.
 pub const ENTITIES: usize = 500;
@@ -64,6 +70,15 @@ pub const RECEIVED: usize = 2;
 
 /// How many figures there are.
 pub const FIGURES: usize = 3;
+
+/// The source of a text that there is none of, in what the calls say.
+pub const NOWHERE: u64 = 0;
+
+/// The source of a text that stands in positions 36-79 of its record.
+pub const IN_FILE: u64 = 1;
+
+/// The source of a text that stands in the motive list.
+pub const IN_MOTIVES: u64 = 2;
 
 /// The place of a refused opening, in what the calls say; [`Place::Opening`] here.
 pub const OPENING: u64 = u64::MAX;
@@ -91,6 +106,15 @@ pub const STACK_BUILD: usize = 131_072;
 
 /// For [`Opening::strip`].
 pub const STACK_STRIP: usize = 131_072;
+
+/// For [`Opening::receive`].
+pub const STACK_RECEIVE: usize = 131_072;
+
+/// For [`Opening::show`].
+pub const STACK_SHOW: usize = 196_608;
+
+/// For [`Opening::reasons`].
+pub const STACK_REASONS: usize = 196_608;
 
 /// What the program `positions` prints for this input: the listing of one file, or its refusal.
 pub fn listing(input: &[u8]) -> Vec<u8> {

@@ -1,7 +1,8 @@
 //! A session's opening, and the jobs done in it.
 
-use crate::calls::{self, Spoken};
+use crate::calls::{self, Shown, Spoken};
 use crate::{listed, Refusal, ENTITIES, FIGURES, POSITION, RECEIVED, SENT};
+use crate::{FILE_LIMIT, IN_FILE, IN_MOTIVES, RECORD, TEXT};
 
 #[derive(Clone, Copy, Debug, PartialEq, Eq, Hash)]
 pub enum Currency {
@@ -41,6 +42,18 @@ pub struct Day {
     pub answers: Vec<Result<(), Refusal>>,
     /// By entity number, for all [`ENTITIES`].
     pub cells: Vec<Cell>,
+}
+
+/// Why a debit came back.
+#[derive(Clone, Copy, Debug, PartialEq, Eq)]
+#[non_exhaustive]
+pub struct Reason<'a> {
+    /// The additional record of the rejection, from 0.
+    pub record: usize,
+    /// The R number in it.
+    pub number: u8,
+    /// [`TEXT`] bytes of the file or of the motive list, as they stand.
+    pub text: &'a [u8],
 }
 
 impl Opening<'_> {
@@ -106,6 +119,66 @@ impl Opening<'_> {
     pub fn strip(&self, file: &[u8], out: &mut [u8]) -> Result<usize, Refusal> {
         calls::strip(self, file, out).counted()
     }
+
+    /// Reads an extract as the desk of its entity does, and counts its records; nothing is posted.
+    ///
+    /// Refused by 208, then as the reading is, where another desk's header, a foreign destination or a wrong batch number is 17.
+    pub fn receive(&self, entity: u64, file: &[u8]) -> Result<usize, Refusal> {
+        calls::receive(self, entity, file).counted()
+    }
+
+    /// The text of the reason in one record of an extract, the additional record of a rejection: its positions 36-79 where they are not
+    /// all blank, otherwise the line of its R number in a motive list of [`MOTIVES`](crate::MOTIVES) bytes.
+    ///
+    /// Refused by 208, then by 207 for a motive list of another length, then as receiving is, then by 214 where the record is no such one.
+    pub fn show<'a>(
+        &self,
+        entity: u64,
+        file: &'a [u8],
+        motives: &'a [u8],
+        record: u64,
+    ) -> Result<&'a [u8], Refusal> {
+        let Shown {
+            number,
+            place,
+            source,
+            at,
+        } = calls::show(self, entity, file, motives, record);
+        Spoken { number, place }.answer()?;
+        Ok(text(source, at, file, motives).expect("a text is shown"))
+    }
+
+    /// The reasons in all records of an extract, in the order of the records. Refused as showing is, but for 214.
+    pub fn reasons<'a>(
+        &self,
+        entity: u64,
+        file: &'a [u8],
+        motives: &'a [u8],
+    ) -> Result<Vec<Reason<'a>>, Refusal> {
+        let mut texts = vec![0; 2 * (file.len().min(FILE_LIMIT) / RECORD)];
+        calls::reasons(self, entity, file, motives, &mut texts).answer()?;
+        let reason = |(record, pair): (usize, &[u64])| {
+            let text = text(pair[0], pair[1], file, motives)?;
+            let digit = |position: usize| file[record * RECORD + position - 1] - b'0';
+            Some(Reason {
+                record,
+                number: 10 * digit(5) + digit(6),
+                text,
+            })
+        };
+        let pairs = texts.chunks_exact(2).enumerate();
+        Ok(pairs.filter_map(reason).collect())
+    }
+}
+
+/// The text that begins at a byte of its source, if there is one.
+fn text<'a>(source: u64, at: u64, file: &'a [u8], motives: &'a [u8]) -> Option<&'a [u8]> {
+    let bytes = match source {
+        IN_FILE => file,
+        IN_MOTIVES => motives,
+        _ => return None,
+    };
+    Some(&bytes[at as usize..][..TEXT])
 }
 
 /// Where each file ends, in bytes from the first file's beginning.

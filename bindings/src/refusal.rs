@@ -46,9 +46,10 @@ faults! {
     Currency = 203, "entity of the other currency";
     Roster = 204, "entity not on the roster";
     Room = 206, "output buffer shorter than the output";
-    Tray = 207, "tray or header body malformed";
-    Entity = 208, "entity number not 1 to 499, or, when extracting, not on the roster";
+    Tray = 207, "tray or header body malformed, or motive list not 4,400 bytes";
+    Entity = 208, "entity number not 1 to 499, or, in a job for one entity, not on the roster";
     Identifier = 209, "identifier already accepted from this origin";
+    Reason = 214, "record asked for is not a rejection's additional record";
 }
 
 impl Fault {
@@ -132,7 +133,7 @@ impl Spoken {
         self.counted().map(|_| ())
     }
 
-    /// Records read or bytes written, or the refusal.
+    /// Records read or bytes written or shown, or the refusal.
     ///
     /// # Panics
     /// Where no fault has the number: no answer of such a library can be relied on.

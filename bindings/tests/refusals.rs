@@ -5,7 +5,7 @@ mod common;
 use common::{junk, lent, record, refused, tray_of, L, OPENING};
 use desk::calls::{self, Spoken};
 use desk::{Cell, Fault, Opening, Place, Refusal, UnknownNumber};
-use desk::{ENTITIES, FIGURES, LISTING, RECORD, TRAY_RECORD};
+use desk::{ENTITIES, FIGURES, LISTING, MOTIVES, RECORD, TRAY_RECORD};
 
 /// The job is refused, and its buffer stays as it was.
 fn stays(
@@ -85,6 +85,7 @@ fn empty_files() {
     assert_eq!(OPENING.read(&[]), length);
     assert_eq!(OPENING.extract(402, &[], &mut []), length);
     assert_eq!(OPENING.strip(&[], &mut []), length);
+    assert_eq!(OPENING.receive(402, &[]), length);
     assert_eq!(OPENING.build(&[], &[], &mut []), refused(Fault::Tray, 0));
     assert_eq!(desk::listing(&[]), b"REFUSED 201 AT 0\n");
     let day = OPENING.day(&[b"", b""]).unwrap();
@@ -119,6 +120,16 @@ fn assert_not_opened(opening: Opening, fault: Fault) {
         assert_eq!((answer, buffer), (Err(refusal), junk(L.len())));
     }
     let (said, number) = (|said: Spoken| (said.number, said.place), fault.number());
+    assert_eq!(opening.receive(402, L), Err(refusal));
+    let motives = junk(MOTIVES);
+    assert_eq!(opening.show(402, L, &motives, 0), Err(refusal));
+    assert_eq!(opening.reasons(402, L, &motives), Err(refusal));
+    let shown = calls::show(&opening, 402, L, &motives, 0);
+    assert_eq!((shown.number, shown.place), (number, desk::OPENING));
+    assert_eq!((shown.source, shown.at), (desk::NOWHERE, 0));
+    let mut texts = [7; 20];
+    let reasons = calls::reasons(&opening, 402, L, &motives, &mut texts);
+    assert_eq!((said(reasons), texts), ((number, desk::OPENING), [7; 20]));
     let (mut answers, mut figures, mut out) = ([7; 2], [7; FIGURES * ENTITIES], [7; LISTING]);
     let day = calls::day(&opening, &[940], L, &mut answers, &mut figures);
     assert_eq!(said(day), (number, desk::OPENING));
@@ -178,4 +189,5 @@ fn a_fault_gives_its_number_and_back() {
         assert_eq!(Fault::try_from(number), Err(UnknownNumber(number)));
     }
     assert_eq!(Fault::Identifier.number(), 209);
+    assert_eq!(Fault::Reason.number(), 214);
 }

@@ -1,5 +1,5 @@
-//! Signatures stand by hand in `crates/export`, `include/desk.h` and `src/calls.rs`: they are compared, and with them the struct of an
-//! answer. So are the constants, which stand in `src/lib.rs`, `src/refusal.rs` and `python/shaydhoqel.py` besides. What Python declares
+//! Signatures stand by hand in `crates/export`, `include/desk.h` and `src/calls.rs`: they are compared, and with them the structs of
+//! answers. So are the constants, which stand in `src/lib.rs`, `src/refusal.rs` and `python/shaydhoqel.py` besides. What Python declares
 //! of the functions is compared in its own tests.
 
 mod declarations;
@@ -18,7 +18,7 @@ const PLACES: [&str; 4] = [
 ];
 
 /// Constants of the boundary, by those of the crates.
-const SHARED: [(&str, &str); 7] = [
+const SHARED: [(&str, &str); 12] = [
     ("RECORD", "Session::RECORD"),
     ("FILE_LIMIT", "Session::FILE_LIMIT"),
     ("TRAY_RECORD", "Tray::RECORD"),
@@ -26,6 +26,11 @@ const SHARED: [(&str, &str); 7] = [
     ("ENTITIES", "Session::ROSTER"),
     ("LISTING", "Listing::ROOM"),
     ("OPENING", "Spoken::OPENING"),
+    ("TEXT", "Shown::TEXT"),
+    ("MOTIVES", "Shown::MOTIVES"),
+    ("NOWHERE", "SpokenText::NOWHERE"),
+    ("IN_FILE", "SpokenText::IN_FILE"),
+    ("IN_MOTIVES", "SpokenText::IN_MOTIVES"),
 ];
 
 // ---- comparing
@@ -79,7 +84,7 @@ fn sources(name: &str) -> String {
 
 fn crates_constants() -> Constants {
     let crates = [
-        "paper", "field", "reading", "tray", "desk", "listing", "export",
+        "paper", "field", "reading", "reasons", "tray", "desk", "listing", "export",
     ];
     rust_constants(&crates.map(sources).concat())
 }

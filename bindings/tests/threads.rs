@@ -1,25 +1,34 @@
 //! Every job on threads: with the stack that it needs, and side by side.
 
 mod common;
+mod rejections;
 
 use common::{lent, record, refused, tray_of, L, OPENING};
-use desk::{Day, Fault, Refusal, FILE_LIMIT, RECORD, TRAY_RECORD, TRAY_ROOM};
+use desk::{Day, Fault, Reason, Refusal, FILE_LIMIT, RECORD, TRAY_RECORD, TRAY_ROOM};
+use rejections::{motives, rejection};
 use std::thread;
 
 /// What a job gives.
 #[derive(PartialEq)]
-enum Given {
+enum Given<'a> {
     Read(Result<usize, Refusal>),
     Day(Result<Day, Refusal>),
     Listed(Result<Vec<u8>, Refusal>),
     Written((Result<usize, Refusal>, Vec<u8>)),
+    Shown(Result<&'a [u8], Refusal>),
+    Reasons(Result<Vec<Reason<'a>>, Refusal>),
 }
 
-/// The longest tray that a file can be built from, the file, and one that lacks its last record.
+/// A job with the stack that it needs.
+type Job<'a> = (usize, Box<dyn Fn() -> Given<'a> + Sync + 'a>);
+
+/// The longest tray that a file can be built from, the file, and one that lacks its last record; the longest extract with rejections.
 struct Inputs {
     tray: Vec<u8>,
     file: Vec<u8>,
     cut: Vec<u8>,
+    handed: Vec<u8>,
+    motives: Vec<u8>,
 }
 
 impl Inputs {
@@ -31,26 +40,40 @@ impl Inputs {
         assert_eq!(answer, Ok(FILE_LIMIT));
         let cut = file[..FILE_LIMIT - RECORD].to_vec();
         assert_eq!(OPENING.read(&cut), refused(Fault::Format, 9_999));
-        Inputs { tray, file, cut }
+        let pair = [("36", "SIN FONDOS"), ("31", "")];
+        let pair = pair.map(|(code, text)| rejection(code, "04020001", 10, text));
+        let rejected = [batch, &pair.concat().repeat(2_499)].concat();
+        let build = |out: &mut [u8]| OPENING.build(record(L, 0), &rejected, out);
+        let (answer, returned) = lent(FILE_LIMIT, build);
+        assert_eq!(answer, Ok(FILE_LIMIT));
+        let (answer, handed) = lent(FILE_LIMIT, |out| OPENING.extract(402, &returned, out));
+        assert_eq!(answer, Ok(FILE_LIMIT));
+        let motives = motives();
+        Inputs {
+            tray,
+            file,
+            cut,
+            handed,
+            motives,
+        }
     }
 
-    /// Each job with the stack that it needs, good ones and refused ones.
-    fn jobs(&self) -> [(usize, Box<dyn Fn() -> Given + Sync + '_>); 11] {
-        let Inputs { tray, file, cut } = self;
-        let build = |tray, room| lent(room, |out| OPENING.build(record(L, 0), tray, out));
-        let extract = |file, room| lent(room, |out| OPENING.extract(402, file, out));
-        let strip = |file, room| lent(room, |out| OPENING.strip(file, out));
+    /// Good ones and refused ones.
+    fn jobs(&self) -> Vec<Job<'_>> {
+        let mut jobs = self.read();
+        jobs.extend(self.written());
+        jobs.extend(self.received());
+        jobs
+    }
+
+    fn read(&self) -> Vec<Job<'_>> {
+        let Inputs { file, cut, .. } = self;
+        let read = |file| Given::Read(OPENING.read(file));
         let listing = |input| Given::Listed(Ok(desk::listing(input)));
         let day = desk::STACK_DAY;
-        [
-            (
-                desk::STACK_READ,
-                Box::new(|| Given::Read(OPENING.read(file))),
-            ),
-            (
-                desk::STACK_READ,
-                Box::new(|| Given::Read(OPENING.read(cut))),
-            ),
+        vec![
+            (desk::STACK_READ, Box::new(move || read(file))),
+            (desk::STACK_READ, Box::new(move || read(cut))),
             (
                 day,
                 Box::new(|| Given::Day(OPENING.day(&[cut, L, file, file]))),
@@ -60,30 +83,45 @@ impl Inputs {
                 Box::new(|| Given::Listed(OPENING.day_listing(&[cut, L, file]))),
             ),
             (desk::STACK_LISTING, Box::new(move || listing(L))),
-            (
-                desk::STACK_EXTRACT,
-                Box::new(move || Given::Written(extract(file, FILE_LIMIT))),
-            ),
-            (
-                desk::STACK_EXTRACT,
-                Box::new(move || Given::Written(extract(file, FILE_LIMIT - 1))),
-            ),
-            (
-                desk::STACK_BUILD,
-                Box::new(move || Given::Written(build(tray, FILE_LIMIT))),
-            ),
-            (
-                desk::STACK_BUILD,
-                Box::new(move || Given::Written(build(&tray[1..], FILE_LIMIT))),
-            ),
-            (
-                desk::STACK_STRIP,
-                Box::new(move || Given::Written(strip(file, TRAY_ROOM))),
-            ),
-            (
-                desk::STACK_STRIP,
-                Box::new(move || Given::Written(strip(cut, TRAY_ROOM))),
-            ),
+        ]
+    }
+
+    fn written(&self) -> Vec<Job<'_>> {
+        let Inputs {
+            tray, file, cut, ..
+        } = self;
+        let build =
+            |tray, room| Given::Written(lent(room, |out| OPENING.build(record(L, 0), tray, out)));
+        let extract =
+            |file, room| Given::Written(lent(room, |out| OPENING.extract(402, file, out)));
+        let strip = |file, room| Given::Written(lent(room, |out| OPENING.strip(file, out)));
+        let (extracting, building, stripping) =
+            (desk::STACK_EXTRACT, desk::STACK_BUILD, desk::STACK_STRIP);
+        vec![
+            (extracting, Box::new(move || extract(file, FILE_LIMIT))),
+            (extracting, Box::new(move || extract(file, FILE_LIMIT - 1))),
+            (building, Box::new(move || build(tray, FILE_LIMIT))),
+            (building, Box::new(move || build(&tray[1..], FILE_LIMIT))),
+            (stripping, Box::new(move || strip(file, TRAY_ROOM))),
+            (stripping, Box::new(move || strip(cut, TRAY_ROOM))),
+        ]
+    }
+
+    fn received(&self) -> Vec<Job<'_>> {
+        let Inputs {
+            handed, motives, ..
+        } = self;
+        let unclosed = &handed[..FILE_LIMIT - RECORD];
+        let receive = |file| Given::Read(OPENING.receive(402, file));
+        let show = |file, record| Given::Shown(OPENING.show(402, file, motives, record));
+        let reasons = |file| Given::Reasons(OPENING.reasons(402, file, motives));
+        vec![
+            (desk::STACK_RECEIVE, Box::new(move || receive(handed))),
+            (desk::STACK_RECEIVE, Box::new(move || receive(unclosed))),
+            (desk::STACK_SHOW, Box::new(move || show(handed, 9_997))),
+            (desk::STACK_SHOW, Box::new(move || show(handed, 9_998))),
+            (desk::STACK_REASONS, Box::new(move || reasons(handed))),
+            (desk::STACK_REASONS, Box::new(move || reasons(unclosed))),
         ]
     }
 }

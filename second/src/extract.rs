@@ -1,19 +1,18 @@
 //! Extracting: what a file holds for one entity, as a file of its own.
 
-use crate::fields::{field, field_mut, write_number};
+use crate::fields::{field, field_mut};
 use crate::reading::RECORD;
 use crate::refusal::{BUFFER, ENTITY_NUMBER};
+use crate::rules::Digits;
 use crate::writing::Writer;
-use crate::{read, Refusal, Rules, Session};
-
-/// The entity as it stands in the first half of an entity field of the session's currency.
-type Digits = [u8; 4];
+use crate::{read, Refusal, Session};
 
 impl Session {
     /// The number of bytes written. Those behind them stay, and all of them when it is refused.
     pub fn extract(&self, entity: u64, file: &[u8], out: &mut [u8]) -> Result<usize, Refusal> {
         let refusal = Refusal::of_no_record;
-        let digits = digits(self.rules(), entity).ok_or(refusal(ENTITY_NUMBER))?;
+        let digits = self.rules().digits(entity);
+        let digits = digits.ok_or(refusal(ENTITY_NUMBER))?;
         read(self.rules(), file)?;
         // Counted before anything is written: a buffer too short must stay as it is.
         let length = length(file, digits);
@@ -24,16 +23,6 @@ impl Session {
         }
         Ok(length)
     }
-}
-
-/// None for a number that is no entity's, or for an entity not on the roster.
-fn digits(rules: &Rules, entity: u64) -> Option<Digits> {
-    let listed = (1..=499).contains(&entity) && rules.roster[entity as usize];
-    listed.then(|| {
-        let mut digits = [b'0'; 4];
-        write_number(&mut digits, entity + rules.currency.added());
-        digits
-    })
 }
 
 /// A good file without the individual records to others and their additionals.

@@ -1,6 +1,7 @@
 //! Good and damaged files, and what else the jobs are done on, each made from a seed and its number alone.
 
 pub mod addressed;
+mod asked;
 pub mod built;
 mod case;
 mod copies;
@@ -13,15 +14,19 @@ pub mod extract;
 mod faults;
 mod files;
 pub mod good;
+pub mod handed;
 mod large;
 pub mod lending;
 mod lengths;
 pub mod listing;
 pub mod meant;
 mod opening;
+mod parcel;
 pub mod random;
+pub mod receive;
 mod room;
 mod session;
+pub mod show;
 pub mod strip;
 mod structure;
 mod sums;

@@ -1,10 +1,10 @@
 //! Types 6 and 7: the individual record and its additional.
 
 use crate::fields::{all_blank, all_digits, entity, field, number};
+use crate::reader::Reader;
 use crate::refusal::{
     require, ACCOUNT, ADDITIONAL, AMOUNT, COUNTER, FORMAT, INFORMATION, REFERENCE, RESERVED,
 };
-use crate::rules::Rules;
 
 #[derive(Clone, Copy, Debug, PartialEq, Eq)]
 pub enum Code {
@@ -48,14 +48,14 @@ pub struct Individual<'a> {
 
 impl<'a> Individual<'a> {
     pub fn check(
-        rules: &Rules,
+        reader: &Reader,
         sender: &[u8],
         last_sequence: u64,
         record: &'a [u8],
     ) -> Result<Self, u16> {
         let code = Code::of(record).ok_or(FORMAT)?;
         let destination = entity(field(record, 4, 11)).ok_or(FORMAT)?;
-        rules.admit(destination)?;
+        reader.admit_destination(destination, field(record, 4, 11))?;
         require(record[11] == b'0', RESERVED)?;
         require(all_digits(field(record, 13, 29)), ACCOUNT)?;
         let amount = number(field(record, 30, 39))

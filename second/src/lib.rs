@@ -1,4 +1,5 @@
-//! An independent second program for document 01: reading, opening, presenting, extracting, building, stripping and the listing.
+//! An independent second program for document 01: reading, opening, presenting, extracting, building, stripping and the listing; with
+//! what ticket 1 of document 02 adds, receiving and showing reasons.
 
 pub mod building;
 pub mod controls;
@@ -12,7 +13,10 @@ pub mod individual;
 pub mod listing;
 pub mod posting;
 pub mod proved;
+pub mod reader;
 pub mod reading;
+pub mod reasons;
+pub mod receiving;
 pub mod refusal;
 pub mod rules;
 pub mod session;
@@ -24,6 +28,8 @@ pub use building::build;
 pub use currency::Currency;
 pub use listing::listing;
 pub use reading::read;
+pub use reasons::{reasons, show, Source, Standing};
+pub use receiving::receive;
 pub use refusal::Refusal;
 pub use rules::Rules;
 pub use session::{Cell, Session};

@@ -3,8 +3,9 @@
 #![cfg(feature = "proved")]
 
 use crate::day::{Day, Opening, Outcome};
+use crate::reasons::{Shown, REASON};
 use crate::session::CELLS;
-use crate::{Cell, Currency, Refusal, Written};
+use crate::{Cell, Currency, Refusal, Source, Standing, Written};
 use desk::calls::{self, Spoken};
 use desk::{FIGURES, LISTING, POSITION, RECEIVED, SENT};
 
@@ -115,6 +116,84 @@ pub fn build(
 /// The call alone, for measuring: opens a session and strips.
 pub fn strip(opening: &Opening, file: &[u8], out: &mut [u8]) -> Result<usize, Refusal> {
     counted(calls::strip(&theirs(opening), file, out))
+}
+
+/// The call alone, for measuring too: opens a session and receives.
+pub fn receive(opening: &Opening, entity: u64, file: &[u8]) -> Result<usize, Refusal> {
+    counted(calls::receive(&theirs(opening), entity, file))
+}
+
+/// The reason with its bytes from where it is said to stand, or what is wrong with the way it was said.
+pub fn shown(
+    opening: &Opening,
+    entity: u64,
+    file: &[u8],
+    motives: &[u8],
+    record: u64,
+) -> Result<Shown, String> {
+    let said = calls::show(&theirs(opening), entity, file, motives, record);
+    if said.number != 0 {
+        let nothing = said.source == 0 && said.at == 0;
+        let refusal = refusal(said.number, said.place);
+        return nothing.then_some(Err(refusal)).ok_or(format!("{said:?}"));
+    }
+    let standing = standing(said.source, said.at);
+    let standing = standing.filter(|_| place(said.place) == REASON);
+    let text = standing.and_then(|standing| Some((standing, standing.text(file, motives)?)));
+    let (standing, text) = text.ok_or(format!("{said:?}"))?;
+    Ok(Ok((standing, text.to_vec())))
+}
+
+fn standing(source: u64, at: u64) -> Option<Standing> {
+    let source = match source {
+        1 => Source::File,
+        2 => Source::Motives,
+        _ => return None,
+    };
+    let at = place(at);
+    Some(Standing { source, at })
+}
+
+/// The two numbers that stand for a record's reason.
+pub fn in_numbers(reason: Option<Standing>) -> [u64; 2] {
+    match reason {
+        None => [0, 0],
+        Some(Standing { source, at }) => match source {
+            Source::File => [1, at as u64],
+            Source::Motives => [2, at as u64],
+        },
+    }
+}
+
+/// What all reasons of a file leave behind: the answer, and all numbers that were lent, as they are afterwards.
+#[derive(Clone, Debug, PartialEq, Eq)]
+pub struct Told {
+    pub answer: Result<usize, Refusal>,
+    pub texts: Vec<u64>,
+}
+
+/// Lends a copy of these numbers, or says that some were written behind them.
+pub fn reasons(
+    opening: &Opening,
+    entity: u64,
+    file: &[u8],
+    motives: &[u8],
+    texts: &[u64],
+) -> Result<Told, String> {
+    let mut numbers = [texts, &[JUNK; GUARD]].concat();
+    let (lent, behind) = numbers.split_at_mut(texts.len());
+    let answer = counted(calls::reasons(
+        &theirs(opening),
+        entity,
+        file,
+        motives,
+        lent,
+    ));
+    if *behind != [JUNK; GUARD] {
+        return Err(format!("answered {answer:?}, wrote behind the numbers"));
+    }
+    let texts = lent.to_vec();
+    Ok(Told { answer, texts })
 }
 
 /// The answer and the buffer afterwards, or what was written outside of it.

@@ -4,6 +4,7 @@ use crate::controls::{check_batch_control, check_file_control, Sums};
 use crate::fields::is_character;
 use crate::headers::{check_batch_header, check_file_header, sender};
 use crate::individual::{has_additional, Individual};
+use crate::reader::Reader;
 use crate::refusal::{require, Refusal, ADDITIONAL, FORMAT, LENGTH};
 use crate::rules::Rules;
 
@@ -15,10 +16,15 @@ const LONGEST: usize = MOST_RECORDS * RECORD;
 
 /// The number of records of a good file.
 pub fn read(rules: &Rules, file: &[u8]) -> Result<usize, Refusal> {
+    read_by(Reader::house(rules), file)
+}
+
+/// The one reading, whoever reads.
+pub fn read_by(reader: Reader, file: &[u8]) -> Result<usize, Refusal> {
     if !(SHORTEST..=LONGEST).contains(&file.len()) || !file.len().is_multiple_of(RECORD) {
         return Err(Refusal::of_no_record(LENGTH));
     }
-    let mut reading = Reading::new(rules);
+    let mut reading = Reading::new(reader);
     for (place, record) in file.chunks_exact(RECORD).enumerate() {
         reading
             .take(record)
@@ -33,7 +39,7 @@ pub fn read(rules: &Rules, file: &[u8]) -> Result<usize, Refusal> {
 
 /// What of the records read so far is needed for those to come.
 struct Reading<'a> {
-    rules: &'a Rules,
+    reader: Reader<'a>,
     previous: Option<&'a [u8]>,
     records: usize,
     batches: u64,
@@ -45,9 +51,9 @@ struct Reading<'a> {
 }
 
 impl<'a> Reading<'a> {
-    fn new(rules: &'a Rules) -> Self {
+    fn new(reader: Reader<'a>) -> Self {
         Reading {
-            rules,
+            reader,
             previous: None,
             records: 0,
             batches: 0,
@@ -63,7 +69,7 @@ impl<'a> Reading<'a> {
         check_order(self.previous, record[0])?;
         self.records += 1;
         match record[0] {
-            b'1' => check_file_header(self.rules, record)?,
+            b'1' => check_file_header(&self.reader, record)?,
             b'5' => self.open_batch(record)?,
             b'6' => self.take_individual(record)?,
             b'7' => self.take_additional(record)?,
@@ -75,7 +81,7 @@ impl<'a> Reading<'a> {
     }
 
     fn open_batch(&mut self, record: &'a [u8]) -> Result<(), u16> {
-        check_batch_header(self.rules, record)?;
+        check_batch_header(&self.reader, self.batches, record)?;
         self.header = record;
         self.batch = Sums::default();
         Ok(())
@@ -84,7 +90,7 @@ impl<'a> Reading<'a> {
     fn take_individual(&mut self, record: &'a [u8]) -> Result<(), u16> {
         // The sequence runs on through the file's batches; the first exceeds 0.
         let last = self.individual.map_or(0, |individual| individual.sequence);
-        let individual = Individual::check(self.rules, sender(self.header), last, record)?;
+        let individual = Individual::check(&self.reader, sender(self.header), last, record)?;
         self.batch.add_individual(&individual);
         self.individual = Some(individual);
         Ok(())

@@ -22,6 +22,7 @@ pub const BUFFER: u16 = 206;
 pub const TRAY: u16 = 207;
 pub const ENTITY_NUMBER: u16 = 208;
 pub const IDENTIFIER: u16 = 209;
+pub const NO_REASON: u16 = 214;
 
 impl Refusal {
     /// A refusal tied to no record.

@@ -1,8 +1,11 @@
 //! What a reading takes from its session: date, currency and roster.
 
 use crate::currency::Currency;
-use crate::fields::Entity;
+use crate::fields::{write_number, Entity};
 use crate::refusal::{require, NOT_ON_ROSTER, OTHER_CURRENCY};
+
+/// An entity as it stands in the first half of an entity field of the session's currency.
+pub type Digits = [u8; 4];
 
 #[derive(Clone, Debug, PartialEq, Eq)]
 pub struct Rules {
@@ -18,5 +21,15 @@ impl Rules {
     pub(crate) fn admit(&self, entity: Entity) -> Result<(), u16> {
         require(entity.currency == self.currency, OTHER_CURRENCY)?;
         require(self.roster[entity.number], NOT_ON_ROSTER)
+    }
+
+    /// None for a number that is no entity's, or for an entity not on the roster.
+    pub(crate) fn digits(&self, entity: u64) -> Option<Digits> {
+        let listed = (1..=499).contains(&entity) && self.roster[entity as usize];
+        listed.then(|| {
+            let mut digits = [b'0'; 4];
+            write_number(&mut digits, entity + self.currency.added());
+            digits
+        })
     }
 }

@@ -1,11 +1,13 @@
-//! Generated extractions, buildings and strippings: what was meant, and both ways there and back.
+//! Generated extractions, buildings, strippings, receivings and reasons: what was meant, and both ways there and back.
 
 use second::generate::built::is_as_built;
 use second::generate::extract::generate_extract;
 use second::generate::lending::{Input, Lending};
+use second::generate::receive::generate_received;
+use second::generate::show::generate_shown;
 use second::generate::strip::generate_strip;
 use second::generate::tray::generate_tray;
-use second::{build, strip, Written};
+use second::{build, receive, strip, Written};
 
 const CASES: u64 = 12_000;
 
@@ -28,6 +30,41 @@ fn are_those_meant<I: Input>(
 #[test]
 fn extracts_are_those_meant() {
     are_those_meant(generate_extract, |_, _, _| {});
+}
+
+#[test]
+fn receivings_are_those_meant() {
+    for seed in 1..=2 {
+        for number in 0..CASES {
+            let case = generate_received(seed, number);
+            let name = format!("seed {seed}, case {number}, {}", case.family);
+            assert_eq!(case.check(case.run()), Ok(()), "{name}");
+        }
+    }
+}
+
+#[test]
+fn reasons_are_those_meant() {
+    for seed in 1..=2 {
+        for number in 0..CASES {
+            let case = generate_shown(seed, number);
+            let name = format!("seed {seed}, case {number}, {}", case.family);
+            assert_eq!(case.check(&case.run(), &case.run_all()), Ok(()), "{name}");
+        }
+    }
+}
+
+/// "Every extract must read as accepted in the session it was made in."
+#[test]
+fn every_extract_is_received() {
+    for number in 0..CASES {
+        let case = generate_extract(4, number);
+        let left = case.run();
+        let Ok(length) = left.answer else { continue };
+        let extract = &left.buffer[..length];
+        let answer = receive(&case.rules, case.input.entity, extract);
+        assert_eq!(answer, Ok(length / 94), "extract {number}");
+    }
 }
 
 #[test]
@@ -91,5 +128,10 @@ fn a_case_depends_on_seed_and_number_only() {
         assert!(one.input.tray == other.input.tray && one.buffer == other.buffer);
         let [one, other] = [7, 7].map(|seed| generate_strip(seed, number));
         assert!(one.input.file == other.input.file && one.buffer == other.buffer);
+        let [one, other] = [7, 7].map(|seed| generate_received(seed, number));
+        assert!(one.file == other.file && one.entity == other.entity);
+        let [one, other] = [7, 7].map(|seed| generate_shown(seed, number));
+        assert!(one.file == other.file && one.motives == other.motives);
+        assert!(one.entity == other.entity && one.record == other.record);
     }
 }

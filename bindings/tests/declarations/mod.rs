@@ -169,7 +169,8 @@ fn lent(parameter: &str) -> Vec<String> {
 }
 
 pub fn of_export(text: &str, constants: &Constants) -> Declarations {
-    let code = plain(text);
+    // there `Shown` is the desk's own, which holds no numbers
+    let code = plain(text).replace("SpokenText", "Shown");
     let functions = code.split("#[no_mangle] pub extern \"C\" fn ").skip(1);
     let functions = functions.map(|text| {
         let (name, parameters) = rust_function(text, constants);
@@ -203,6 +204,7 @@ fn header_type(name: &str) -> String {
         "uint64_t" => "u64".to_string(),
         "int64_t" => "i64".to_string(),
         "struct shaydhoqel_spoken" => "Spoken".to_string(),
+        "struct shaydhoqel_shown" => "Shown".to_string(),
         other => other.to_string(),
     }
 }

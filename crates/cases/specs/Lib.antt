@@ -1,3 +1,4 @@
 pub mod Ends
 pub mod Succession
 pub mod Printed
+pub mod Received

@@ -1,12 +1,14 @@
 // What the controls count.
 ghost use mathlib.Core.Path.{_≡_};
 ghost use mathlib.Core.Bool.{cond};
-ghost use Prim.Native.Nat.{_^_, _≤_};
+ghost use Prim.Native.Nat.{_+_, _^_, _≤_, _<_};
 ghost use lib.ListN.{length};
+ghost use Rattle.paper.specs.Kinds.{collects, pays};
 ghost use Rattle.paper.specs.Controls.{plus, withIndividual, withAdditional};
 ghost use Rattle.controls.specs.Bounds.{Below};
 use field::individual;
 use field::kind;
+use paper::record::Code;
 use paper::record::Tally;
 
 pub const NONE: Tally = Tally {
@@ -26,19 +28,34 @@ fn on_side(counts: bool, amount: u64) -> u64
     0
 }
 
+// One individual record more, by its field 4-11, its code and its amount.
+pub fn with_entry(tally: Tally, destination: u64, code: Code, amount: u64) -> Tally
+    requires { ⌜ (destination < 10 ^ 8) × (amount < 10 ^ 10) ⌝ }
+    requires { ⌜ Below (10 ^ 18) tally ⌝ }
+    ensures { λ r. ⌜ r ≡ record {
+      records = tally .records + 1;
+      destinations = tally .destinations + destination;
+      debits = tally .debits + cond (collects code) amount 0;
+      credits = tally .credits + cond (pays code) amount 0;
+    } ⌝ }
+{
+    Tally {
+        records: tally.records + 1,
+        destinations: tally.destinations + destination,
+        debits: tally.debits + on_side(kind::collects(code), amount),
+        credits: tally.credits + on_side(kind::pays(code), amount),
+    }
+}
+
 pub fn with_individual(tally: Tally, rec: &[u8]) -> Tally
     requires { ⌜ length (now rec) ≡ 94 ⌝ }
     requires { ⌜ Below (10 ^ 18) tally ⌝ }
     ensures { λ r. ⌜ r ≡ withIndividual tally (now (rec .entry)) ⌝ }
 {
+    let destination = individual::destination_field(rec);
     let code = kind::code(rec);
     let amount = individual::amount(rec);
-    Tally {
-        records: tally.records + 1,
-        destinations: tally.destinations + individual::destination_field(rec),
-        debits: tally.debits + on_side(kind::collects(code), amount),
-        credits: tally.credits + on_side(kind::pays(code), amount),
-    }
+    with_entry(tally, destination, code, amount)
 }
 
 pub fn with_additional(tally: Tally) -> Tally

@@ -4,6 +4,7 @@ ghost use lib.ListN.{length};
 ghost use Rattle.desk.specs.Calls.{Reachable};
 ghost use Rattle.handing.specs.Handed.{AllOf};
 ghost use Rattle.counter.specs.InBuffer.{InBuffer};
+use crate::member;
 use crate::say;
 use crate::share;
 use desk::Reply;
@@ -144,7 +145,7 @@ fn present(session: Session) -> Ended
     both(ended, say::list(after))
 }
 
-fn entity() -> u64
+pub(crate) fn entity() -> u64
     ensures { λ r. ⌜ r < 5000 ⌝ }
 {
     let mut word = io::buffer();
@@ -232,5 +233,8 @@ pub(crate) fn run(job: Job, opened: Reply, roll: Roll) -> Ended
         Job::Build => build(session),
         Job::Strip => strip(session),
         Job::Share => share::share(session),
+        Job::Receive => member::receive(session),
+        Job::Reason => member::reason(session),
+        Job::Reasons => member::reasons(session),
     }
 }

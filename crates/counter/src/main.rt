@@ -15,6 +15,7 @@ use typed::call::Word;
 use typed::words;
 
 mod jobs;
+mod member;
 mod say;
 mod share;
 
@@ -44,6 +45,9 @@ fn usage() {
         \x20      counter build DATE CURRENCY ROSTER HEADER TRAY OUT\n\
         \x20      counter strip DATE CURRENCY ROSTER FILE OUT\n\
         \x20      counter share DATE CURRENCY ROSTER FILE FOLDER\n\
+        \x20      counter receive DATE CURRENCY ROSTER ENTITY EXTRACT\n\
+        \x20      counter reason DATE CURRENCY ROSTER ENTITY EXTRACT MOTIVES RECORD\n\
+        \x20      counter reasons DATE CURRENCY ROSTER ENTITY EXTRACT MOTIVES\n\
         \x20      counter explain NUMBER\n\
         \x20      counter version\n\
         DATE is AAMMDD, CURRENCY pesos or dollars, ROSTER a file of entity numbers or the word all.\n",

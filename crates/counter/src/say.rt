@@ -1,5 +1,7 @@
 // What is printed, each line the bytes of a proved function, and how the program ends by it. An answer that nobody can read is no answer.
 ghost use mathlib.Core.Path.{_≡_};
+ghost use Prim.Native.Nat.{_≤_};
+ghost use lib.ListN.{length};
 ghost use Rattle.paper.specs.Answers.{said};
 ghost use Rattle.desk.specs.Calls.{Reachable};
 ghost use Rattle.counter.specs.Ending.{endedBy, Ends};
@@ -10,6 +12,7 @@ use intake::roster::Roll;
 use libc::STDOUT_FILENO;
 use listing::Listing;
 use listing::answers;
+use listing::reason;
 use paper::answer::Answer;
 use paper::answer::Fault;
 use paper::answer::Output;
@@ -101,6 +104,15 @@ pub(crate) fn output(output: Output) -> Ended {
         Output::Accepted(_) => printed(&line[..n], Ended::Accepted),
         Output::Refused(_, _) => printed(&line[..n], Ended::Refused),
     }
+}
+
+// Why a debit came back, by the record at a place; nothing where that says none.
+pub(crate) fn reason<'a>(file: &'a [u8], motives: &'a [u8], place: usize) -> Ended
+    requires { ⌜ length (now file) ≤ 940000 ⌝ }
+{
+    let mut line = [0u8; Listing::REASON];
+    let n = reason::line(file, motives, place, &mut line);
+    printed(&line[..n], Ended::Accepted)
 }
 
 // The listing of the session, whatever its last answer was.

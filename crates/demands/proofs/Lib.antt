@@ -11,6 +11,8 @@ pub mod Stripping
 pub mod Building
 pub mod RoundTrips
 pub mod Naming
+pub mod Receiving
+pub mod Showing
 pub mod Sizes
 pub mod LongTrays
 pub mod Demands

@@ -2,7 +2,7 @@
 use Prim.Native.Nat.{ℕ}
 use mathlib.Core.Bool.{Bool, false, _&&_}
 use mathlib.Core.List.{List}
-use mathlib.Core.Logic.{_↔_, _⊎_, inl, inr}
+use mathlib.Core.Logic.{_↔_, _⊎_, inl, inr, ⊎-map}
 use mathlib.Core.Path.{_≡_, refl, sym, _∙_}
 use lib.Dec.{leb}
 use lib.ListN.{length, getD}
@@ -13,19 +13,21 @@ use Rattle.paper.specs.declared.answer.Output.the-variants.{Refused}
 use Rattle.paper.specs.declared.rules.Rules.{Rules}
 use Rattle.paper.specs.Answers.{Said, accepted, refused, numberOf, andThen, require}
 use Rattle.paper.specs.Fields.{within}
-use Rattle.paper.specs.Reading.{reading}
+use Rattle.paper.specs.Records.{ReadingRules, inHouse}
+use Rattle.paper.specs.Reading.{readingBy, reading}
 use Rattle.paper.specs.Extract.{extract}
 use Rattle.paper.specs.Trays.{build, strip}
+use Rattle.paper.specs.Demands.{AcceptsBy, FaultyBy}
 use Rattle.paper.specs.Buffers.{told, roomFor, entityGiven, trayAnswer, buildable}
 use Rattle.paper.proofs.Tests.{of-T}
 use Rattle.paper.proofs.Refusals.{required, first-refusal, require-refused, both-accept}
 use Rattle.paper.proofs.Numbers.{told-refused}
-use Rattle.paper.proofs.Exactly.{accepted-exactly, refused-exactly}
+use Rattle.paper.proofs.Exactly.{accepted-by, refused-by, refused-exactly}
 use Rattle.building.proofs.Sizes.{built-fits}
 use Rattle.desk.specs.declared.Session.{Session}
 use Rattle.desk.specs.Standing.{rulesOf}
 use Rattle.desk.specs.Calls.{Extracts, Builds, Strips}
-use Rattle.demands.specs.Faults.{FaultyOrShort}
+use Rattle.demands.specs.Faults.{Unless, FaultyOrShort}
 use Rattle.demands.specs.Extracts.{answerFor, ExtractFaulty}
 use Rattle.demands.specs.Trays.{answerToBuild, NotBuildable, BuildFaulty, StripFaulty}
 use Rattle.demands.proofs.TrayFaults.{bad-tray, too-long, no-room, refuses, taken}
@@ -40,43 +42,57 @@ refused-as r after h fault place exactly =
     let t = told-refused r after fault place in
     ((λ p. exactly .0 (sym h ∙ t .0 p)), λ x. t .1 (h ∙ exactly .1 x))
 
--- ---- the reading's refusals, then the room
+-- ---- answers in turn
 
-module _ (rules : Rules) (file new before : List ℕ) {n place : ℕ} where
-  pub read-then-room : (andThen (reading rules file) (roomFor new before) ≡ refused n place) ↔ FaultyOrShort rules file new before n place
-  unfolding roomFor andThen require
-  read-then-room = ((λ h. there (first-refusal (reading rules file) (roomFor new before) h)), back)
-    where
-      there : (reading rules file ≡ refused n place) ⊎ ((reading rules file ≡ accepted) × (roomFor new before ≡ refused n place)) → FaultyOrShort rules file new before n place
-      there (inl x) = inl (refused-exactly rules file .0 x)
-      there (inr x) =
-          let q = require-refused (leb (length new) (length before)) 206 0 (x .1) in
-          inr (accepted-exactly rules file .0 (x .0), leb-false (length new) (length before) (q .0), q .1, q .2)
+-- a test asked first, and the faults that are asked for after it
+pub unless : (test : Bool) (number : ℕ) (later : ℕ → ℕ → Type 0) (rest : Said) {n place : ℕ} → (rest ≡ refused n place) ↔ later n place
+    → (andThen (require test number 0) rest ≡ refused n place) ↔ Unless test number later n place
+unfolding andThen require
+unless test number later rest {n} {place} exactly = ((λ h. there (first-refusal (require test number 0) rest h)), back)
+  where
+    there : (require test number 0 ≡ refused n place) ⊎ ((require test number 0 ≡ accepted) × (rest ≡ refused n place)) → Unless test number later n place
+    there (inl x) = inl (require-refused test number 0 x)
+    there (inr x) = inr (of-T test (required test number 0 (x .0)), exactly .0 (x .1))
 
-      back : FaultyOrShort rules file new before n place → andThen (reading rules file) (roomFor new before) ≡ refused n place
-      back (inl x) = rw (refused-exactly rules file .1 x) refl
-      back (inr x) = rw (accepted-exactly rules file .1 (x .0), lt-leb (length new) (length before) (x .1), x .2, x .3) refl
+    back : Unless test number later n place → andThen (require test number 0) rest ≡ refused n place
+    back (inl x) = rw (x .0, x .1, x .2) refl
+    back (inr x) = rw (x .0) (exactly .1 (x .1))
+
+-- the reading's refusals, by the house or at a desk, then a test's
+pub read-then : (rules : ReadingRules) (file : List ℕ) (test : Bool) (number : ℕ) {n place : ℕ}
+    → (andThen (readingBy rules file) (require test number 0) ≡ refused n place)
+    ↔ (FaultyBy rules file n place ⊎ (AcceptsBy rules file × (test ≡ false) × (n ≡ number) × (place ≡ 0)))
+unfolding andThen require
+read-then rules file test number {n} {place} = ((λ h. there (first-refusal (readingBy rules file) (require test number 0) h)), back)
+  where
+    there : (readingBy rules file ≡ refused n place) ⊎ ((readingBy rules file ≡ accepted) × (require test number 0 ≡ refused n place))
+        → FaultyBy rules file n place ⊎ (AcceptsBy rules file × (test ≡ false) × (n ≡ number) × (place ≡ 0))
+    there (inl x) = inl (refused-by rules file .0 x)
+    there (inr x) = let q = require-refused test number 0 (x .1) in inr (accepted-by rules file .0 (x .0), q .0, q .1, q .2)
+
+    back : FaultyBy rules file n place ⊎ (AcceptsBy rules file × (test ≡ false) × (n ≡ number) × (place ≡ 0))
+        → andThen (readingBy rules file) (require test number 0) ≡ refused n place
+    back (inl x) = rw (refused-by rules file .1 x) refl
+    back (inr x) = rw (accepted-by rules file .1 (x .0), x .1, x .2, x .3) refl
+
+-- the room
+read-then-room : (rules : Rules) (file new before : List ℕ) {n place : ℕ}
+    → (andThen (reading rules file) (roomFor new before) ≡ refused n place) ↔ FaultyOrShort rules file new before n place
+unfolding roomFor reading
+read-then-room rules file new before =
+    let x = read-then (inHouse rules) file (leb (length new) (length before)) 206 in (
+      (λ h. ⊎-map (λ y. y) (λ y. (y .0, leb-false (length new) (length before) (y .1), y .2, y .3)) (x .0 h)),
+      λ f. x .1 (⊎-map (λ y. y) (λ y. (y .0, lt-leb (length new) (length before) (y .1), y .2, y .3)) f),
+    )
 
 -- ---- extracting
 
 module _ (s : Session) (e : ℕ) (file before : List ℕ) where
-  abbrev given : Bool
-  given = within 1 499 e && getD (s .roster) e false
-
-  abbrev later : Said
-  later = andThen (reading (rulesOf s) file) (roomFor (extract (s .currency) e file) before)
-
   faulty : {n place : ℕ} → (answerFor s e file before ≡ refused n place) ↔ ExtractFaulty s e file before n place
-  unfolding entityGiven andThen require
-  faulty {n} {place} = ((λ h. there (first-refusal (entityGiven (rulesOf s) e) later h)), back)
-    where
-      there : (entityGiven (rulesOf s) e ≡ refused n place) ⊎ ((entityGiven (rulesOf s) e ≡ accepted) × (later ≡ refused n place)) → ExtractFaulty s e file before n place
-      there (inl x) = inl (require-refused given 208 0 x)
-      there (inr x) = inr (of-T given (required given 208 0 (x .0)), read-then-room (rulesOf s) file (extract (s .currency) e file) before .0 (x .1))
-
-      back : ExtractFaulty s e file before n place → answerFor s e file before ≡ refused n place
-      back (inl x) = rw (x .0, x .1, x .2) refl
-      back (inr x) = rw (x .0) (read-then-room (rulesOf s) file (extract (s .currency) e file) before .1 (x .1))
+  unfolding entityGiven
+  faulty =
+      let new : List ℕ = extract (s .currency) e file in
+      unless (within 1 499 e && getD (s .roster) e false) 208 (FaultyOrShort (rulesOf s) file new before) _ (read-then-room (rulesOf s) file new before)
 
   pub extract-named : (r : Output) (after : List ℕ) → Extracts s e file before r after → (fault : Fault) (place : ℕ)
       → (r ≡ Refused fault place) ↔ ExtractFaulty s e file before (numberOf fault) place

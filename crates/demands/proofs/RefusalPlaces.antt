@@ -1,9 +1,9 @@
 -- Where a refusal stands, job by job: at 0 where its number is tied to no record, else at a record of the file, one past the last only where the 9 is
--- missing; when building, 207 at 0 or at a record of the tray.
+-- missing; when building, 207 at 0 or at a record of the tray; when showing, 207 and 214 at 0.
 use Prim.Native.Nat.{ℕ, _/_, _<_}
 use native.Mathlib.Omega.{arith}
 use mathlib.Core.Bool.{Bool, true, false, not, _&&_}
-use mathlib.Core.List.{List}
+use mathlib.Core.List.{List, _∷_}
 use mathlib.Core.Logic.{_⊎_, inl, inr, ⊎-elim}
 use mathlib.Core.Path.{_≡_, refl, subst}
 use lib.Dec.{T, eqb, leb, eqb→eq}
@@ -12,19 +12,22 @@ use Rattle.paper.specs.declared.rules.Currency.{Currency}
 use Rattle.paper.specs.Answers.{Said, accepted, refused, andThen, require}
 use Rattle.paper.specs.Fields.{among, within, every}
 use Rattle.paper.specs.Dates.{isDate}
-use Rattle.paper.specs.Reading.{lengthGood, reading}
+use Rattle.paper.specs.Records.{ReadingRules, atDesk}
+use Rattle.paper.specs.Reading.{lengthGood, readingBy, reading}
 use Rattle.paper.specs.Extract.{extract}
 use Rattle.paper.specs.Trays.{build, strip}
 use Rattle.paper.specs.Buffers.{roomFor, entityGiven, trayAnswer, buildable}
+use Rattle.paper.specs.Receiving.{receiving, motivesGood, showable, explainsAt}
 use Rattle.paper.specs.Sessions as paper
 use Rattle.paper.specs.Sessions.{opening, openingAnswer, keyOf, answerTo, presenting}
-use Rattle.paper.specs.Demands.{untied, StandsAt, StandsAtNought, BuildStandsIf, BuildStandsAt}
+use Rattle.paper.specs.Demands.{untied, StandsIf, StandsAt, StandsAtNought, BuildStandsIf, BuildStandsAt}
 use Rattle.paper.proofs.Tests.{T-of}
-use Rattle.paper.proofs.ReadingNumbers.{recordNumbers, reading-number}
-use Rattle.paper.proofs.Stands.{reading-stands, both-stand, required-stands}
+use Rattle.paper.proofs.ReadingNumbers.{recordNumbers, number-by, reading-number}
+use Rattle.paper.proofs.Stands.{not-in-both, stands-by, reading-stands, both-stand, required-stands}
 use Rattle.desk.specs.declared.Session.{Session}
 use Rattle.desk.specs.Standing.{rulesOf}
 use Rattle.demands.specs.Extracts.{answerFor}
+use Rattle.demands.specs.Receiving.{ShowStandsAt}
 use Rattle.demands.specs.Trays.{TrayBad, answerToBuild, answerToStrip}
 use Rattle.demands.proofs.TrayFaults.{tray-named}
 
@@ -51,15 +54,60 @@ module _ (file : List ℕ) where
   read-then-room s new before =
       both-stand (StandsAt file) (reading (rulesOf s) file) _ tt (reading-stands (rulesOf s) file) (required-stands file (leb (length new) (length before)) 206 refl)
 
-pub extracting-stands : (s : Session) (e : ℕ) (file before : List ℕ) → StandsAt file (answerFor s e file before)
+-- E's 208, then what stands like the refusals of a file
+given-then : (s : Session) (e : ℕ) (file : List ℕ) (rest : Said) → StandsAt file rest → StandsAt file (andThen (entityGiven (rulesOf s) e) rest)
 unfolding entityGiven among
-extracting-stands s e file before =
-    both-stand (StandsAt file) (entityGiven (rulesOf s) e) _ tt
-    (required-stands file (within 1 499 e && getD (s .roster) e false) 208 refl)
-    (read-then-room file s (extract (s .currency) e file) before)
+given-then s e file rest h =
+    both-stand (StandsAt file) (entityGiven (rulesOf s) e) rest tt (required-stands file (within 1 499 e && getD (s .roster) e false) 208 refl) h
+
+pub extracting-stands : (s : Session) (e : ℕ) (file before : List ℕ) → StandsAt file (answerFor s e file before)
+extracting-stands s e file before = given-then s e file _ (read-then-room file s (extract (s .currency) e file) before)
+
+pub receiving-stands : (s : Session) (e : ℕ) (file : List ℕ) → StandsAt file (receiving (rulesOf s) e file)
+unfolding receiving
+receiving-stands s e file = given-then s e file _ (stands-by (atDesk e (rulesOf s)) file)
 
 pub stripping-stands : (s : Session) (file before : List ℕ) → StandsAt file (answerToStrip s file before)
 stripping-stands s file before = read-then-room file s (strip file) before
+
+-- ---- showing
+
+module _ (file : List ℕ) where
+  -- 207 and 214 are no numbers of the reading
+  read-shows : (rules : ReadingRules) → ShowStandsAt file (readingBy rules file)
+  unfolding among every
+  read-shows rules = go (readingBy rules file) refl (stands-by rules file)
+    where
+      tied : (n place : ℕ) → T (among recordNumbers n) → (b c : Bool) → among untied n ≡ b → among (207 ∷ 214 ∷ untied) n ≡ c → StandsIf b file n place → StandsIf c file n place
+      tied n place t b true p q x = absurd (not-in-both recordNumbers (207 ∷ 214 ∷ untied) tt n t (T-of q))
+      tied n place t true false p q x = absurd (not-in-both recordNumbers untied tt n t (T-of p))
+      tied n place t false false p q x = x
+
+      go : (a : Said) → readingBy rules file ≡ a → StandsAt file a → ShowStandsAt file a
+      go accepted e x = tt
+      go (refused n place) e x =
+          ⊎-elim (λ y. rw (y .1) (subst (λ (m : ℕ). StandsIf (among untied m) file m place) (y .1) x))
+          (λ t. tied n place t (among untied n) (among (207 ∷ 214 ∷ untied) n) refl refl x)
+          (number-by rules file e)
+
+  required-shows : (b : Bool) (n : ℕ) → among (207 ∷ 214 ∷ untied) n ≡ true → ShowStandsAt file (require b n 0)
+  unfolding require
+  required-shows true n u = tt
+  required-shows false n u = rw u refl
+
+  module _ (s : Session) (e : ℕ) (motives : List ℕ) where
+    pub asking-stands : ShowStandsAt file (showable (rulesOf s) e file motives)
+    unfolding showable entityGiven among
+    asking-stands =
+        let stands : Said → Type 0 = ShowStandsAt file in
+        both-stand stands (entityGiven (rulesOf s) e) _ tt
+        (required-shows (within 1 499 e && getD (s .roster) e false) 208 refl)
+        (both-stand stands (require (motivesGood motives) 207 0) _ tt (required-shows (motivesGood motives) 207 refl) (read-shows (atDesk e (rulesOf s))))
+
+    pub showing-stands : (place : ℕ) → ShowStandsAt file (andThen (showable (rulesOf s) e file motives) (require (explainsAt file place) 214 0))
+    unfolding among
+    showing-stands place =
+        both-stand (ShowStandsAt file) (showable (rulesOf s) e file motives) _ tt asking-stands (required-shows (explainsAt file place) 214 refl)
 
 -- ---- building
 

@@ -16,7 +16,7 @@ use Rattle.paper.specs.declared.rules.Rules.{Rules}
 use Rattle.paper.specs.Answers.{Said, accepted, refused, andThen, require}
 use Rattle.paper.specs.Fields.{within}
 use Rattle.paper.specs.Kinds.{kindOf}
-use Rattle.paper.specs.Reading.{recordsOf, lengthGood, reading}
+use Rattle.paper.specs.Reading.{recordsOf, lengthGood, readingBy, reading}
 use Rattle.paper.specs.Extract.{Groups, prepended, grouped, batchesOf, itemRecords}
 use Rattle.paper.specs.Trays.{build, marked, stripped, strip}
 use Rattle.paper.specs.Buffers.{told, roomFor, trayAnswer, buildable}
@@ -40,7 +40,7 @@ use Rattle.demands.proofs.Stripping.{strip-exactly, strip-held}
 -- where the buffer has 940,000 bytes the tests before the reading are 207's: the reading's own 201 is that of building
 roomy : (rules : Rules) (header tray before : List ℕ) → 940000 ≤ length before
     → andThen (buildable header tray before) (reading rules (build header tray)) ≡ andThen (trayAnswer header tray) (reading rules (build header tray))
-unfolding buildable roomFor reading lengthGood andThen require
+unfolding buildable roomFor reading readingBy lengthGood andThen require
 roomy rules header tray before l = go (trayAnswer header tray) (lengthGood (length file)) refl
   where
     file : List ℕ

@@ -1,8 +1,7 @@
 -- The words in which the demands on the desk's extracts are stated.
 use Prim.Native.Nat.{ℕ, _≤_}
-use mathlib.Core.Bool.{true, false, _&&_}
+use mathlib.Core.Bool.{false, _&&_}
 use mathlib.Core.List.{List}
-use mathlib.Core.Logic.{_⊎_}
 use mathlib.Core.Path.{_≡_}
 use lib.Dec.{T}
 use lib.ListN.{length, getD}
@@ -13,7 +12,7 @@ use Rattle.paper.specs.Extract.{extract}
 use Rattle.paper.specs.Buffers.{roomFor, entityGiven}
 use Rattle.desk.specs.declared.Session.{Session}
 use Rattle.desk.specs.Standing.{rulesOf}
-use Rattle.demands.specs.Faults.{FaultyOrShort}
+use Rattle.demands.specs.Faults.{Unless, FaultyOrShort}
 
 -- the answer to a call of extract: 208, then the reading's refusals, then 206
 abbrev pub answerFor : Session → ℕ → List ℕ → List ℕ → Said
@@ -28,6 +27,4 @@ pub record Extractable (s : Session) (e : ℕ) (file before : List ℕ) : Type 0
 
 -- the first fault of a call, its number and place: "208, then the reading's refusals, then 206"
 abbrev pub ExtractFaulty : Session → ℕ → List ℕ → List ℕ → ℕ → ℕ → Type 0
-ExtractFaulty s e file before n place =
-    (((within 1 499 e && getD (s .roster) e false) ≡ false) × (n ≡ 208) × (place ≡ 0))
-    ⊎ (((within 1 499 e && getD (s .roster) e false) ≡ true) × FaultyOrShort (rulesOf s) file (extract (s .currency) e file) before n place)
+ExtractFaulty s e file before = Unless (within 1 499 e && getD (s .roster) e false) 208 (FaultyOrShort (rulesOf s) file (extract (s .currency) e file) before)

@@ -1,3 +1,4 @@
 pub mod Faults
 pub mod Extracts
+pub mod Receiving
 pub mod Trays

@@ -4,4 +4,5 @@ pub mod Keys
 pub mod Replies
 pub mod Lent
 pub mod Asking
+pub mod Members
 pub mod Traying

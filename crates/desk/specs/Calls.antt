@@ -9,8 +9,11 @@ use Rattle.paper.specs.declared.rules.Currency.{Currency}
 use Rattle.paper.specs.Answers.{said}
 use Rattle.paper.specs.Reading.{reading}
 use Rattle.paper.specs.Buffers.{told, extracting, building, stripping}
+use Rattle.paper.specs.Receiving.{receiving, showable, showing}
 use Rattle.paper.specs.Sessions.{opening, presenting, cellOf}
 use Rattle.paper.specs.Demands.{withAccepted}
+use Rattle.reasons.specs.declared.Shown.{Shown}
+use Rattle.reasons.specs.Shown.{showingOf}
 use Rattle.desk.specs.declared.Session.{Session}
 use Rattle.desk.specs.declared.Reply.{Reply}
 use Rattle.desk.specs.Standing.{rulesOf, standing, heard}
@@ -25,6 +28,18 @@ Reads s file a = said a ≡ reading (rulesOf s) file
 
 abbrev pub Presents : Session → List ℕ → Reply → Type 0
 Presents s file r = heard r ≡ presenting (standing s) file
+
+-- of a session, an entity and an extract
+abbrev pub Receives : Session → ℕ → List ℕ → Answer → Type 0
+Receives s e file a = said a ≡ receiving (rulesOf s) e file
+
+-- of a session, an entity, an extract and a motive list: the answer before a record is asked for
+abbrev pub Asks : Session → ℕ → List ℕ → List ℕ → Answer → Type 0
+Asks s e file motives a = said a ≡ showable (rulesOf s) e file motives
+
+-- of these and the place of a record: the answer, and where the text stands
+abbrev pub Shows : Session → ℕ → List ℕ → List ℕ → ℕ → Shown → Type 0
+Shows s e file motives place r = showingOf r ≡ showing (rulesOf s) e file motives place
 
 -- of a session, an entity, a file and a lent buffer: the answer, and the buffer after it
 abbrev pub Extracts : Session → ℕ → List ℕ → List ℕ → Output → List ℕ → Type 0

@@ -2,22 +2,40 @@
 ghost use mathlib.Core.Path.{_≡_};
 ghost use mathlib.Core.Bool.{not};
 ghost use Rattle.paper.specs.Answers.{said, andThen, require};
-ghost use Rattle.paper.specs.Reading.{reading};
+ghost use Rattle.paper.specs.Reading.{readingBy, reading};
 use crate::Session;
 use paper::answer::Answer;
 use paper::answer::Fault;
 use paper::rules::Currency;
+use paper::rules::Reader;
 use paper::rules::Terms;
 use reading::Reading;
 
-pub fn read(date: u64, currency: Currency, roster: &[bool; Session::ROSTER], file: &[u8]) -> Answer
-    ensures { λ r. ⌜ said r ≡ reading record { date = date; currency = currency; roster = now (roster .entry) } (now (file .entry)) ⌝ }
+// By the house, or at a member's desk.
+pub fn read_by(
+    reader: Reader,
+    date: u64,
+    currency: Currency,
+    roster: &[bool; Session::ROSTER],
+    file: &[u8],
+) -> Answer
+    ensures { λ r. ⌜ said r ≡ readingBy record { session = record { date = date; currency = currency; roster = now (roster .entry) }; reader = reader } (now (file .entry)) ⌝ }
 {
-    let terms = Terms { date, currency };
+    let terms = Terms {
+        date,
+        currency,
+        reader,
+    };
     match reading::read(terms, roster, file) {
         Reading::Accepted(_) => Answer::Accepted,
         Reading::Refused(fault, place) => Answer::Refused(fault, place),
     }
+}
+
+pub fn read(date: u64, currency: Currency, roster: &[bool; Session::ROSTER], file: &[u8]) -> Answer
+    ensures { λ r. ⌜ said r ≡ reading record { date = date; currency = currency; roster = now (roster .entry) } (now (file .entry)) ⌝ }
+{
+    read_by(Reader::House, date, currency, roster, file)
 }
 
 // 209 where the identifier is used.

@@ -21,6 +21,7 @@ use reading::Reading;
 
 mod answers;
 mod key;
+mod member;
 mod roster;
 
 pub struct Session {

@@ -1,13 +1,20 @@
 // 6, individual.
 ghost use mathlib.Core.Path.{_≡_};
 ghost use lib.ListN.{length};
-ghost use Rattle.paper.specs.Records.{accountGood, informationGood, flagGood, counterGood, transfer, individual};
+ghost use lib.Dec.{eqb};
+ghost use Rattle.paper.specs.Checks.{need, _also_};
+ghost use Rattle.paper.specs.Entities.{ofCurrency, entityField, entity};
+ghost use Rattle.paper.specs.Fields.{field};
+ghost use Rattle.paper.specs.Records.{accountGood, informationGood, flagGood, counterGood, destination, transfer, individual};
 ghost use Rattle.verdicts.specs.Verdicts.{checkOf, under};
 use characters::number;
 use characters::text;
+use field::entity;
 use field::individual;
 use field::kind;
 use paper::answer::Fault;
+use paper::rules::Currency;
+use paper::rules::Reader;
 use paper::rules::Rules;
 use paper::rules::Terms;
 use verdicts::member;
@@ -43,15 +50,40 @@ pub fn counter_good(header: &[u8], previous: u64, rec: &[u8]) -> bool
     text::same(rec, 80, 87, header, 80, 87) & (previous < number::number(rec, 88, 94))
 }
 
+// At a desk: an entity field, its currency, and that it is the desk's own entity.
+fn own(currency: Currency, desk: u64, rec: &[u8]) -> Verdict
+    requires { ⌜ length (now rec) ≡ 94 ⌝ }
+    ensures { λ r. ⌜ checkOf r ≡ need (entityField (field (now (rec .entry)) 4 11)) 17 also need (ofCurrency currency (field (now (rec .entry)) 4 11)) 203
+        also need (eqb (entity (field (now (rec .entry)) 4 11)) desk) 17 ⌝ }
+{
+    let to = individual::destination(rec);
+    Verdict::Right
+        .need(entity::entity_field(rec, 4, 11), Fault::Format)
+        .need(entity::of_currency(currency, rec, 4, 11), Fault::Currency)
+        .need(to == desk, Fault::Format)
+}
+
+// Whom it is for, by who reads.
+fn destination(terms: Terms, roster: &[bool; Rules::ROSTER], rec: &[u8]) -> Verdict
+    requires { ⌜ length (now rec) ≡ 94 ⌝ }
+    ensures { λ r. ⌜ checkOf r ≡ destination (under terms (now (roster .entry))) (field (now (rec .entry)) 4 11) ⌝ }
+{
+    let currency = terms.currency;
+    let reader = terms.reader;
+    match reader {
+        Reader::House => member::member_field(currency, roster, rec, 4, 11),
+        Reader::Desk(desk) => own(currency, desk, rec),
+    }
+}
+
 // Positions 2 to 54: the code, whereto, how much and for what.
 pub fn transfer(terms: Terms, roster: &[bool; Rules::ROSTER], rec: &[u8]) -> Verdict
     requires { ⌜ length (now rec) ≡ 94 ⌝ }
     ensures { λ r. ⌜ checkOf r ≡ transfer (under terms (now (roster .entry))) (now (rec .entry)) ⌝ }
 {
-    let currency = terms.currency;
     Verdict::Right
         .need(kind::known(kind::code(rec)), Fault::Format)
-        .also(member::member_field(currency, roster, rec, 4, 11))
+        .also(destination(terms, roster, rec))
         .need(text::reads(rec, 12, 12, b"0"), Fault::Reserved)
         .need(account_good(rec), Fault::Account)
         .need(

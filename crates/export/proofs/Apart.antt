@@ -11,20 +11,23 @@ use Rattle.paper.specs.declared.rules.Rules.{Rules}
 use Rattle.paper.specs.Answers.{Said, accepted, refused, andThen, require}
 use Rattle.paper.specs.Fields.{within, among, every}
 use Rattle.paper.specs.Dates.{isDate}
-use Rattle.paper.specs.Reading.{lengthGood, reading}
+use Rattle.paper.specs.Records.{ReadingRules, inHouse, atDesk}
+use Rattle.paper.specs.Reading.{lengthGood, readingBy, reading}
 use Rattle.paper.specs.Extract.{extract}
 use Rattle.paper.specs.Trays.{trayRecords, trayRecordGood, trayFault, build, strip}
 use Rattle.paper.specs.Buffers.{written, roomFor, entityGiven, extracting, stripping, trayAnswer, builtAs, builtIf, buildable, building}
+use Rattle.paper.specs.Receiving.{receiving, motivesGood, showable, explainsAt, TextPlace, textAt, shownIf, showing}
 use Rattle.paper.specs.Listing.{currencyIf}
 use Rattle.paper.specs.Sessions.{Session, openingAnswer, opening}
 use Rattle.paper.specs.Demands.{untied, StandsIf, StandsAt}
 use Rattle.paper.proofs.Tests.{T-of, and-l, within-range}
 use Rattle.paper.proofs.Lists.{length-parts}
 use Rattle.paper.proofs.Refusals.{refused-not}
-use Rattle.paper.proofs.Stands.{both-stand, reading-stands}
+use Rattle.paper.proofs.Stands.{both-stand, stands-by}
 use Rattle.export.specs.declared.Spoken.{Spoken}
 use Rattle.export.specs.Spoken.{Delivered, OfOpening, openingPlace, spokenOf, deliveredOf, notOpened, afterOpening, inSession, readOf}
 use Rattle.export.specs.Day.{Day, dayOf, dayListed}
+use Rattle.export.specs.Member.{shownOf, receiveOf, showOf, reasonsIn, reasonsOf}
 
 -- ---- how far back a refusal stands
 
@@ -41,9 +44,9 @@ further : {m k : ℕ} (a : Said) → m ≤ k → AtMost m a → AtMost k a
 further accepted l h = tt
 further (refused n place) l h = omega arith
 
-reading-at-most : (rules : Rules) (file : List ℕ) → AtMost 10000 (reading rules file)
-unfolding lengthGood reading andThen require
-reading-at-most rules file = go (lengthGood (length file)) refl
+by-at-most : (rules : ReadingRules) (file : List ℕ) → AtMost 10000 (readingBy rules file)
+unfolding lengthGood readingBy andThen require
+by-at-most rules file = go (lengthGood (length file)) refl
   where
     there : (b : Bool) (n place : ℕ) → StandsIf b file n place → place ≤ length file / 94
     there true n place h = omega arith
@@ -54,16 +57,39 @@ reading-at-most rules file = go (lengthGood (length file)) refl
     stands accepted h = tt
     stands (refused n place) h = there (among untied n) n place h
 
-    go : (b : Bool) → lengthGood (length file) ≡ b → AtMost 10000 (reading rules file)
+    go : (b : Bool) → lengthGood (length file) ≡ b → AtMost 10000 (readingBy rules file)
     go true e =
         let w = within-range 188 940000 (length file) (and-l (within 188 940000 (length file)) (eqb (length file % 94) 0) (T-of e)) in
-        further (reading rules file) (omega (arith, w .1)) (stands (reading rules file) (reading-stands rules file))
+        further (readingBy rules file) (omega (arith, w .1)) (stands (readingBy rules file) (stands-by rules file))
     go false e = rw e (omega arith)
+
+reading-at-most : (rules : Rules) (file : List ℕ) → AtMost 10000 (reading rules file)
+unfolding reading
+reading-at-most rules file = by-at-most (inHouse rules) file
 
 written-at-most : (m : ℕ) (a : Said) (new buffer : List ℕ) → AtMost m a → AtMost m (written a new buffer .answer)
 unfolding written
 written-at-most m accepted new buffer h = tt
 written-at-most m (refused n place) new buffer h = h
+
+shown-at-most : (m : ℕ) (a : Said) (text : TextPlace) → AtMost m a → AtMost m (shownIf a text .answer)
+unfolding shownIf
+shown-at-most m accepted text h = tt
+shown-at-most m (refused n place) text h = h
+
+-- 208 first
+given-at-most : (rules : Rules) (e : ℕ) (a : Said) → AtMost 10000 a → AtMost 10000 (andThen (entityGiven rules e) a)
+unfolding entityGiven
+given-at-most rules e a h =
+    both-stand (AtMost 10000) (entityGiven rules e) a tt (required-at-most 10000 (within 1 499 e && getD (rules .roster) e false) 208 0 (omega arith)) h
+
+-- then 207 and the reading at the desk
+showable-at-most : (rules : Rules) (e : ℕ) (file motives : List ℕ) → AtMost 10000 (showable rules e file motives)
+unfolding showable
+showable-at-most rules e file motives =
+    given-at-most rules e (andThen (require (motivesGood motives) 207 0) (readingBy (atDesk e rules) file))
+    (both-stand (AtMost 10000) (require (motivesGood motives) 207 0) (readingBy (atDesk e rules) file) tt
+    (required-at-most 10000 (motivesGood motives) 207 0 (omega arith)) (by-at-most (atDesk e rules) file))
 
 -- the reading's refusals, then 206
 read-then-room : (rules : Rules) (file new buffer : List ℕ) → AtMost 10000 (andThen (reading rules file) (roomFor new buffer))
@@ -166,16 +192,11 @@ module _ (date : ℕ) (dollars : Bool) (entities : List ℕ) where
 
   pub extracting-apart : (e : ℕ) (file buffer : List ℕ)
       → Tells (inSession date dollars entities buffer (λ (s : Session). deliveredOf (extracting (s .rules) e file buffer)) .spoken)
-  unfolding deliveredOf extracting entityGiven
+  unfolding deliveredOf extracting
   extracting-apart e file buffer =
       told-apart buffer _
       (λ s. let new = extract (s .rules .currency) e file in
-      own _ 10000 _
-      (written-at-most 10000 _ new buffer
-      (both-stand (AtMost 10000) (entityGiven (s .rules) e) _ tt
-      (required-at-most 10000 (within 1 499 e && getD (s .rules .roster) e false) 208 0 (omega arith))
-      (read-then-room (s .rules) file new buffer)))
-      (omega arith))
+      own _ 10000 _ (written-at-most 10000 _ new buffer (given-at-most (s .rules) e _ (read-then-room (s .rules) file new buffer))) (omega arith))
 
   pub stripping-apart : (file buffer : List ℕ)
       → Tells (inSession date dollars entities buffer (λ (s : Session). deliveredOf (stripping (s .rules) file buffer)) .spoken)
@@ -189,3 +210,22 @@ module _ (date : ℕ) (dollars : Bool) (entities : List ℕ) where
   unfolding deliveredOf
   building-apart header tray buffer l =
       told-apart buffer _ (λ s. own _ _ _ (building-at-most header tray buffer (s .rules)) (omega arith))
+
+  pub receiving-apart : (e : ℕ) (file : List ℕ) → Tells (receiveOf date dollars entities e file .spoken)
+  unfolding receiveOf receiving
+  receiving-apart e file = told-apart _ _ (λ s. own _ 10000 _ (given-at-most (s .rules) e _ (by-at-most (atDesk e (s .rules)) file)) (omega arith))
+
+  pub showing-apart : (e : ℕ) (file motives : List ℕ) (place : ℕ) → Tells (showOf date dollars entities e file motives place .spoken)
+  unfolding showOf shownOf showing
+  showing-apart e file motives place =
+      told-apart _ _
+      (λ s. own _ 10000 _
+      (shown-at-most 10000 _ (textAt file place)
+      (both-stand (AtMost 10000) (showable (s .rules) e file motives) _ tt
+      (showable-at-most (s .rules) e file motives)
+      (required-at-most 10000 (explainsAt file place) 214 0 (omega arith))))
+      (omega arith))
+
+  pub reasons-apart : (e : ℕ) (file motives texts : List ℕ) → Tells (reasonsOf date dollars entities e file motives texts .spoken)
+  unfolding reasonsOf reasonsIn
+  reasons-apart e file motives texts = told-apart _ _ (λ s. own _ 10000 _ (showable-at-most (s .rules) e file motives) (omega arith))

@@ -1,16 +1,15 @@
 -- A day, file by file.
-use Prim.Native.Nat.{ℕ, zero, suc, _+_, _-_, _*_, _/_, _≤_, _<_, min}
+use Prim.Native.Nat.{ℕ, zero, suc, _+_, _-_, _≤_, _<_, min}
 use mathlib.Core.List.{List, [], _∷_}
 use mathlib.Core.Path.{_≡_, ap}
 use native.Mathlib.Nat.{zero-min, min-zero, suc-min-suc, suc-sub-suc, sub-zero, zero-sub}
 use native.Mathlib.Numerals.{add-one}
-use borrow.Author.Tests.{lt-ltb, le-ltb}
-use lib.ListN.{length, take, drop, getD, set, drop-of-length-le}
+use lib.ListN.{length, take, drop, getD, drop-of-length-le}
 use lib.Seq.{take-nil, drop-cons}
 use Rattle.paper.specs.Sessions.{Session, Reply, presenting}
 use Rattle.export.specs.declared.Spoken.{Spoken}
-use Rattle.export.specs.Spoken.{spokenOf}
-use Rattle.export.specs.Day.{Turns, between, answerWritten, turn, turnsFrom}
+use Rattle.export.specs.Spoken.{spokenOf, pairWritten}
+use Rattle.export.specs.Day.{Turns, between, turn, turnsFrom}
 
 -- ---- the bytes of a file
 
@@ -34,17 +33,6 @@ part-within (suc from) zero l = simp (zero-min, min-zero, zero-sub)
 part-within (suc from) (suc end) [] = simp (min-zero, take-nil)
 part-within (suc from) (suc end) (x ∷ l) = simp (suc-min-suc, suc-sub-suc) (part-within from end l)
 
--- ---- answers handed over
-
-module _ (i : ℕ) (spoken : Spoken) (answers : List ℕ) where
-  pub both-written : i < length answers / 2 → set (set answers (2 * i) (spoken .number)) (2 * i + 1) (spoken .place) ≡ answerWritten i spoken answers
-  unfolding answerWritten
-  both-written h = rw (lt-ltb i (length answers / 2) h)
-
-  pub none-written : length answers / 2 ≤ i → answers ≡ answerWritten i spoken answers
-  unfolding answerWritten
-  none-written h = rw (le-ltb i (length answers / 2) h)
-
 -- ---- the turns
 
 abbrev pub turns : Session → List ℕ → Turns
@@ -52,7 +40,7 @@ turns session answers = record { session = session; answers = answers }
 
 module _ (i from : ℕ) (ends files : List ℕ) where
   pub one-turn : (s : Session) (answers : List ℕ) {file answers′ : List ℕ} {reply : Reply} {spoken : Spoken} → i < length ends
-      → file ≡ between from (getD ends i 0) files → reply ≡ presenting s file → spoken ≡ spokenOf 0 (reply .answer) → answers′ ≡ answerWritten i spoken answers
+      → file ≡ between from (getD ends i 0) files → reply ≡ presenting s file → spoken ≡ spokenOf 0 (reply .answer) → answers′ ≡ pairWritten i (spoken .number) (spoken .place) answers
       → turnsFrom i from (drop i ends) files (turns s answers) ≡ turnsFrom (i + 1) (getD ends i 0) (drop (i + 1) ends) files (turns (reply .session) answers′)
   unfolding turnsFrom turn
   one-turn s answers l f r p a = rw (drop-cons ends i 0 l, ← add-one i, a, p, r, f)

@@ -1,18 +1,17 @@
 -- One outcome only. The two numbers that are handed over fix the reading's answer, since no refusal has number 0; a day's contract fixes its answer and
 -- both buffers, and the figures fix every cell.
-use Prim.Native.Nat.{ℕ}
-use Prim.Native.Nat.{_+_, _*_, _<_}
+use Prim.Native.Nat.{ℕ, _<_}
 use mathlib.Core.Bool.{Bool}
 use mathlib.Core.List.{List}
 use mathlib.Core.Path.{_≡_, refl, sym, ap, ap₂, _∙_}
 use native.Mathlib.Omega.{arith}
-use lib.IntN.{ℤ, pos, natAbs}
+use lib.IntN.{natAbs}
 use lib.ListN.{length, getD}
 use lib.Seq.{ext-getD}
 use Rattle.paper.specs.declared.ledger.Cell.{Cell}
 use Rattle.paper.specs.Sessions.{zeroCell}
 use Rattle.paper.specs.declared.answer.Fault.{Fault}
-use Rattle.paper.specs.declared.answer.Fault.the-variants.{Length, Format, Amount, Additional, Counter, Date, Reserved, Account, Reference, Information, Currency, Roster, Room, Tray, Entity, Identifier}
+use Rattle.paper.specs.declared.answer.Fault.the-variants.{Length, Format, Amount, Additional, Counter, Date, Reserved, Account, Reference, Information, Currency, Roster, Room, Tray, Entity, Identifier, Reason}
 use Rattle.paper.specs.declared.answer.Answer.{Answer}
 use Rattle.paper.specs.declared.answer.Answer.the-variants.{Accepted, Refused}
 use Rattle.paper.specs.Answers.{said, numberOf}
@@ -39,6 +38,7 @@ not-zero Room h = omega arith
 not-zero Tray h = omega arith
 not-zero Entity h = omega arith
 not-zero Identifier h = omega arith
+not-zero Reason h = omega arith
 
 pub spoken-once : (n : ℕ) (a b : Answer) → spokenOf n (said a) ≡ spokenOf n (said b) → a ≡ b
 unfolding spokenOf

@@ -1,17 +1,15 @@
 -- A whole day: an opening, and files presented in turn.
-use Prim.Native.Nat.{ℕ, _+_, _-_, _*_, _/_}
-use mathlib.Core.Bool.{Bool, cond}
+use Prim.Native.Nat.{ℕ, _+_, _-_}
+use mathlib.Core.Bool.{Bool}
 use mathlib.Core.List.{List, [], _∷_, _++_, map, flatMap}
-use lib.Dec.{ltb}
 use lib.IntN.{ℤ, pos}
-use lib.ListN.{length, take, drop, getD, set}
+use lib.ListN.{length, take, drop, getD}
 use Rattle.paper.specs.declared.ledger.Cell.{Cell}
 use Rattle.paper.specs.Answers.{accepted}
 use Rattle.paper.specs.Buffers.{written}
 use Rattle.paper.specs.Listing.{listing}
 use Rattle.paper.specs.Sessions.{Session, Reply, presenting}
-use Rattle.export.specs.declared.Spoken.{Spoken}
-use Rattle.export.specs.Spoken.{Delivered, spokenOf, deliveredOf, inSession}
+use Rattle.export.specs.Spoken.{Delivered, spokenOf, deliveredOf, pairWritten, inSession}
 
 -- a session, and the buffer with the answers so far
 pub record Turns : Type 0 where
@@ -27,13 +25,11 @@ pub record Day : Type 0 where
 unfoldable pub between : ℕ → ℕ → List ℕ → List ℕ
 between from end files = take (end - from) (drop from files)
 
--- number and place of answer i, where the buffer has room for both
-unfoldable pub answerWritten : ℕ → Spoken → List ℕ → List ℕ
-answerWritten i spoken answers = cond (ltb i (length answers / 2)) (set (set answers (2 * i) (spoken .number)) (2 * i + 1) (spoken .place)) answers
-
--- a file's reply, its answer handed over
+-- a file's reply, number and place of its answer handed over
 unfoldable pub turn : ℕ → Reply → List ℕ → Turns
-turn i reply answers = record { session = reply .session; answers = answerWritten i (spokenOf 0 (reply .answer)) answers }
+turn i reply answers =
+    let spoken = spokenOf 0 (reply .answer) in
+    record { session = reply .session; answers = pairWritten i (spoken .number) (spoken .place) answers }
 
 -- the files that end at `ends`, the first of them number i and beginning at `from`
 unfoldable pub turnsFrom : ℕ → ℕ → List ℕ → List ℕ → Turns → Turns

@@ -1,9 +1,10 @@
 -- What is handed over the boundary.
-use Prim.Native.Nat.{ℕ, _/_, _<_}
-use mathlib.Core.Bool.{Bool}
+use Prim.Native.Nat.{ℕ, _+_, _*_, _/_, _<_}
+use mathlib.Core.Bool.{Bool, cond}
 use mathlib.Core.List.{List}
 use mathlib.Core.Path.{_≡_}
-use lib.ListN.{length}
+use lib.Dec.{ltb}
+use lib.ListN.{length, set}
 use Rattle.paper.specs.Answers.{Said, accepted, refused}
 use Rattle.paper.specs.Buffers.{Outcome}
 use Rattle.paper.specs.Listing.{currencyIf}
@@ -24,6 +25,10 @@ pub record Delivered (Lent : Type 0) : Type 0 where
 -- where the one thing lent is a buffer: the answer with the bytes written in place of the records
 unfoldable pub deliveredOf : Outcome → Delivered (List ℕ)
 deliveredOf o = record { spoken = spokenOf (o .size) (o .answer); lent = o .buffer }
+
+-- the two numbers of number i, where the buffer has room for both
+unfoldable pub pairWritten : ℕ → ℕ → ℕ → List ℕ → List ℕ
+pairWritten i first second buffer = cond (ltb i (length buffer / 2)) (set (set buffer (2 * i) first) (2 * i + 1) second) buffer
 
 -- the greatest number of 64 bits: no record stands there
 abbrev pub openingPlace : ℕ

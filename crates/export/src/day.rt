@@ -2,12 +2,13 @@
 ghost use mathlib.Core.Path.{_≡_};
 ghost use Rattle.desk.specs.Standing.{standing};
 ghost use Rattle.desk.specs.Calls.{Reachable};
-ghost use Rattle.export.specs.Day.{between, answerWritten, turnsOf, dayOf, dayListed};
+ghost use Rattle.export.specs.Day.{between, turnsOf, dayOf, dayListed};
 use crate::Spoken;
 use crate::currency;
 use crate::figures::hand_figures;
 use crate::least;
 use crate::not_opened;
+use crate::pairs::hand_pair;
 use crate::speak;
 use desk::Session;
 use listing::Listing;
@@ -25,16 +26,6 @@ fn between(from: usize, end: usize, files: &[u8]) -> &[u8]
     &files[start..stop]
 }
 
-// Number and place of an answer, where there is room for both.
-fn hand_answer(i: usize, spoken: Spoken, answers: &mut [u64])
-    ensures { λ _. ⌜ now (answers .exit) ≡ answerWritten i spoken (now (answers .entry)) ⌝ }
-{
-    if i < answers.len() / 2 {
-        answers[2 * i] = spoken.number;
-        answers[2 * i + 1] = spoken.place;
-    }
-}
-
 // The files in turn, each answer handed over.
 fn present_all(session: Session, ends: &[u64], files: &[u8], answers: &mut [u64]) -> Session
     requires { ⌜ Reachable session ⌝ }
@@ -48,7 +39,8 @@ fn present_all(session: Session, ends: &[u64], files: &[u8], answers: &mut [u64]
         let end = ends[i] as usize;
         let reply = after.present(between(from, end, files));
         let answer = reply.answer;
-        hand_answer(i, speak(NO_RECORDS, answer), answers);
+        let spoken = speak(NO_RECORDS, answer);
+        hand_pair(i, spoken.number, spoken.place, answers);
         after = reply.session;
         from = end;
         i += 1;

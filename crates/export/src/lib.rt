@@ -17,6 +17,8 @@ use paper::rules::Currency;
 pub mod day;
 pub mod extract;
 mod figures;
+pub mod member;
+mod pairs;
 pub mod tray;
 
 // An answer in the paper's numbers: 0 and the number of records, or the refusal number and its place.

@@ -12,7 +12,7 @@ use Rattle.paper.specs.Kinds.{kindOf}
 use Rattle.paper.specs.Writing.{numbered, batchControlOf}
 use Rattle.paper.proofs.Lists.{Sized}
 use Rattle.controls.specs.Bounds.{Below}
-use Rattle.field.specs.Places.{recordAt}
+use Rattle.paper.specs.Reading.{recordAt}
 use Rattle.controls.proofs.Bounds.{below-more}
 use Rattle.writing.proofs.Laying.{kept}
 use Rattle.picking.specs.Places.{Placed, chosen}

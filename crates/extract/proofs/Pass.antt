@@ -12,13 +12,13 @@ use Rattle.paper.specs.declared.record.Kind.the-variants.{FileHeader, BatchHead
 use Rattle.paper.specs.declared.rules.Rules.{Rules}
 use Rattle.paper.specs.Answers.{accepted}
 use Rattle.paper.specs.Kinds.{kindOf}
-use Rattle.paper.specs.Reading.{State, start, beforeNext, next, parts, recordsOf, reading}
+use Rattle.paper.specs.Records.{ReadingRules, inHouse}
+use Rattle.paper.specs.Reading.{State, start, beforeNext, next, parts, recordsOf, reading, recordAt}
 use Rattle.paper.specs.Extract.{Item, Batch, Groups, prepended, grouped, batchesOf, isTo, itemsTo, holding, batchesTo, itemRecords}
 use Rattle.paper.specs.Demands.{Faultless}
 use Rattle.paper.proofs.Accepted.{Follows, file-begins, batch-opens, file-ends, first-individual, its-additional, next-individual, batch-closes, judged-facts, first-header, after-last, accepted-facts}
 use Rattle.paper.proofs.Lists.{length-parts}
 use Rattle.paper.proofs.Places.{parts-from}
-use Rattle.field.specs.Places.{recordAt}
 use Rattle.picking.specs.Notes.{Notes, Stage, passing, going, isGoing, waiting, notesBy, notesWith, notesAfter, goesTo, headersTo}
 use Rattle.picking.specs.Places.{chosen}
 use Rattle.picking.proofs.Chosen.{length-chosen}
@@ -110,7 +110,7 @@ module _ (e : ℕ) (file : List ℕ) where
 
 -- ---- in an accepted file no individual record stands before the first batch
 
-none-before : (rules : Rules) (s : State) (rs : List (List ℕ)) → s .before ≡ Between → Faultless rules s rs → grouped rs .items ≡ []
+none-before : (rules : ReadingRules) (s : State) (rs : List (List ℕ)) → s .before ≡ Between → Faultless rules s rs → grouped rs .items ≡ []
 unfolding grouped prepended next beforeNext
 none-before rules s [] e h = refl
 none-before rules s (r ∷ rs) e h = go Between (kindOf r) (rw e at (judged-facts rules s r (h .0) .order)) refl refl
@@ -130,9 +130,9 @@ no-items-first rules file h =
     let a = accepted-facts rules file h in
     let hd : List ℕ = take 94 file in
     let e = a .first .1 in
-    let rd : Faultless rules start (hd ∷ a .first .0) = rw e at (a .reads) in
-    let k : kindOf hd ≡ FileHeader = first-header rules hd (a .first .0) rd in
-    rw (e, k) (none-before rules (next start hd) (a .first .0) (ap (λ (x : Kind). beforeNext x hd) k) (rd .1))
+    let rd : Faultless (inHouse rules) start (hd ∷ a .first .0) = rw e at (a .reads) in
+    let k : kindOf hd ≡ FileHeader = first-header (inHouse rules) hd (a .first .0) rd in
+    rw (e, k) (none-before (inHouse rules) (next start hd) (a .first .0) (ap (λ (x : Kind). beforeNext x hd) k) (rd .1))
 
 pub picked-batches : (rules : Rules) (e : ℕ) (file : List ℕ) → reading rules file ≡ accepted → chosen file (goesTo e file) ≡ flat (batchesTo e (batchesOf file))
 unfolding batchesOf left waiting itemRecords itemsTo

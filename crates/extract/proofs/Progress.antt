@@ -18,7 +18,7 @@ use Rattle.paper.proofs.Grouping.{BatchesGood, extract-good}
 use Rattle.paper.proofs.Lists.{Sized}
 use Rattle.paper.proofs.Regrouping.{length-header}
 use Rattle.controls.specs.Bounds.{Below}
-use Rattle.field.specs.Places.{recordAt}
+use Rattle.paper.specs.Reading.{recordAt}
 use Rattle.controls.proofs.Bounds.{below-more, below-plus, below-zeros}
 use Rattle.writing.proofs.Laying.{Wrote, start, on, whole, kept, part-laid, rest-laid}
 use Rattle.picking.specs.Notes.{goesTo}

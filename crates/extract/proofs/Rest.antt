@@ -16,7 +16,7 @@ use Rattle.paper.proofs.Grouping.{BatchesGood, extract-good}
 use Rattle.paper.proofs.Lists.{joined-append}
 use Rattle.paper.proofs.Regrouping.{length-header}
 use Rattle.paper.proofs.Size.{extract-fits}
-use Rattle.field.specs.Places.{recordAt}
+use Rattle.paper.specs.Reading.{recordAt}
 use Rattle.picking.specs.Places.{Passed, chosen}
 use Rattle.batches.specs.Blocks.{ownOf, tallied, block}
 use Rattle.extract.specs.Blocks.{blocksFrom, flat}

@@ -2,7 +2,7 @@
 ghost use mathlib.Core.Path.{_≡_};
 ghost use Prim.Native.Nat.{_+_, _≤_, _<_};
 ghost use lib.ListN.{length, getD, drop};
-ghost use Rattle.field.specs.Places.{recordAt};
+ghost use Rattle.paper.specs.Reading.{recordAt};
 ghost use Rattle.picking.specs.Places.{Placed, chosen};
 ghost use Rattle.batches.specs.Blocks.{ownAt, ownOf, block, Batched};
 ghost use Rattle.extract.specs.Blocks.{ToCopy};

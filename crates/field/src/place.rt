@@ -1,7 +1,8 @@
 // Records by their places in a file, from 0.
 ghost use mathlib.Core.Path.{_≡_};
 ghost use lib.ListN.{length};
-ghost use Rattle.field.specs.Places.{recordAt, InFile};
+ghost use Rattle.paper.specs.Reading.{recordAt};
+ghost use Rattle.field.specs.Places.{InFile};
 
 pub struct Record {}
 

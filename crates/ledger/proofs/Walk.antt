@@ -13,13 +13,12 @@ use Rattle.paper.specs.declared.record.Kind.{Kind}
 use Rattle.paper.specs.declared.record.Kind.the-variants.{Individual}
 use Rattle.paper.specs.Kinds.{kindOf, codeOf, collects}
 use Rattle.paper.specs.Records.{amountOf, destinationIn, senderIn}
-use Rattle.paper.specs.Reading.{parts, recordsOf}
+use Rattle.paper.specs.Reading.{parts, recordsOf, recordAt}
 use Rattle.paper.specs.Postings.{Posting, posting, postedBy, ownPostings}
 use Rattle.paper.specs.Sessions.{zeroCell, cellsAfter}
 use Rattle.paper.proofs.Lists.{length-parts}
 use Rattle.paper.proofs.Places.{parts-from}
 use Rattle.field.proofs.Arms.{in-kinds}
-use Rattle.field.specs.Places.{recordAt}
 use Rattle.ledger.specs.Sides.{side}
 use Rattle.ledger.proofs.Cells.{cells-append, cells-none, posted}
 

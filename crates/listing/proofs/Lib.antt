@@ -3,3 +3,4 @@ pub mod Taking
 pub mod Printing
 pub mod AnswerLines
 pub mod Showing
+pub mod Reasons

@@ -1,2 +1,3 @@
 pub mod Room
 pub mod Answers
+pub mod Reasons

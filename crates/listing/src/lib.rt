@@ -6,10 +6,12 @@ ghost use Rattle.listing.specs.Room.{Written};
 use desk::Session;
 use paper::answer::Answer;
 use paper::answer::Fault;
+use reasons::Shown;
 
 pub mod answers;
 pub mod input;
 mod lines;
+pub mod reason;
 mod shown;
 
 // What a listing can be at most.
@@ -30,6 +32,8 @@ impl Listing {
     pub const WORD: usize = 64;
     // Bytes of a line that ends in such a word, at most.
     pub const WORD_LINE: usize = Listing::LINE + Listing::WORD;
+    // Bytes of the line of a reason, at most: a place, R and its number, and the text, each with what parts it from the next.
+    pub const REASON: usize = 21 + 4 + Shown::TEXT + 1;
     // The longest listing: the heading, a line for each entity, and one for the sums in place of number 0.
     pub const ROOM: usize = Listing::HEADING + Session::ROSTER * Listing::LINE;
 }

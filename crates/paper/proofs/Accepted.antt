@@ -18,16 +18,16 @@ use Rattle.paper.specs.Fields.{field, within, every, good, digits, same,
 use Rattle.paper.specs.Dates.{dateField}
 use Rattle.paper.specs.Entities.{ofCurrency, entityField, onRoster}
 use Rattle.paper.specs.Kinds.{kindOf, codeOf, known, allowed}
-use Rattle.paper.specs.Records.{member, memberField, batchHeader, amountOf, counterGood, transfer, individual}
+use Rattle.paper.specs.Records.{ReadingRules, inHouse, member, memberField, numberGood, batchHeader, amountOf, counterGood, addressed, destination, transfer, individual}
 use Rattle.paper.specs.declared.record.Tally.{Tally}
 use Rattle.paper.specs.Controls.{batchControl, blocks, fileControl}
-use Rattle.paper.specs.Reading.{State, start, fields, judged, at, parts, recordsOf, lengthGood, reading}
+use Rattle.paper.specs.Reading.{State, start, fields, judged, at, parts, recordsOf, lengthGood, readingBy, reading}
 use Rattle.paper.specs.Writing.{joined}
 use Rattle.paper.specs.Demands.{Faultless}
 use Rattle.paper.proofs.Types.{each-kind}
 use Rattle.paper.proofs.Tests.{and-l, and-r, within-range}
 use Rattle.paper.proofs.Lists.{Sized, joined-parts, sized-parts}
-use Rattle.paper.proofs.Exactly.{also-l, also-r, need-T, wrong-not-fine, accepted-exactly}
+use Rattle.paper.proofs.Exactly.{also-l, also-r, need-T, wrong-not-fine, accepted-by}
 
 -- ---- facts of one record, by its type
 
@@ -41,9 +41,9 @@ pub record IndividualRead (rules : Rules) (header : List ℕ) (before : ℕ) (r 
   pub tail : T (digits (field r 80 94))
   pub counter : T (counterGood header before r)
 
-pub individual-read : (rules : Rules) (header : List ℕ) (before : ℕ) (r : List ℕ) → individual rules header before r ≡ fine
+pub individual-read : (rules : Rules) (header : List ℕ) (before : ℕ) (r : List ℕ) → individual (inHouse rules) header before r ≡ fine
     → IndividualRead rules header before r
-unfolding individual transfer memberField member
+unfolding individual transfer destination addressed
 individual-read rules header before r h = search (also-l, also-r, need-T) depth 20
 
 pub record ControlRead (header : List ℕ) (t : Tally) (r : List ℕ) : Type 0 where
@@ -81,9 +81,9 @@ pub record BatchRead (rules : Rules) (r : List ℕ) : Type 0 where
   pub listed : T (onRoster (rules .roster) (field r 80 87))
   pub number : T (digits (field r 88 94))
 
-pub batch-read : (rules : Rules) (r : List ℕ) → batchHeader rules r ≡ fine → BatchRead rules r
-unfolding batchHeader memberField member
-batch-read rules r h = search (also-l, also-r, need-T) depth 14
+pub batch-read : (rules : Rules) (before : ℕ) (r : List ℕ) → batchHeader (inHouse rules) before r ≡ fine → BatchRead rules r
+unfolding batchHeader numberGood memberField member
+batch-read rules before r h = search (also-l, also-r, need-T) depth 14
 
 -- ---- the order of types
 
@@ -109,18 +109,18 @@ follows Flagged = each-kind (λ k. allowed Flagged k ≡ fine → Follows Flagge
 follows Inside = each-kind (λ k. allowed Inside k ≡ fine → Follows Inside k) no no (λ h. next-individual) no (λ h. batch-closes) no no
 follows Ended = λ k. no
 
-pub record Judged (rules : Rules) (s : State) (r : List ℕ) : Type 0 where
+pub record Judged (rules : ReadingRules) (s : State) (r : List ℕ) : Type 0 where
   pub good : T (every good r)
   pub allowed : allowed (s .before) (kindOf r) ≡ fine
   pub order : Follows (s .before) (kindOf r)
   pub fields : fields (kindOf r) rules s r ≡ fine
 
-pub judged-facts : (rules : Rules) (s : State) (r : List ℕ) → judged rules s r ≡ fine → Judged rules s r
+pub judged-facts : (rules : ReadingRules) (s : State) (r : List ℕ) → judged rules s r ≡ fine → Judged rules s r
 unfolding judged
 judged-facts rules s r h = search (also-l, also-r, need-T, follows)
 
 -- the first record of an accepted file is a header
-pub first-header : (rules : Rules) (r : List ℕ) (rs : List (List ℕ)) → Faultless rules start (r ∷ rs) → kindOf r ≡ FileHeader
+pub first-header : (rules : ReadingRules) (r : List ℕ) (rs : List (List ℕ)) → Faultless rules start (r ∷ rs) → kindOf r ≡ FileHeader
 unfolding start
 first-header rules r rs h = go (kindOf r) (judged-facts rules start r (h .0) .order)
   where
@@ -128,14 +128,14 @@ first-header rules r rs h = go (kindOf r) (judged-facts rules start r (h .0) .or
     go k file-begins = refl
 
 -- Nothing stands after a 9
-pub after-last : (rules : Rules) (s : State) (rs : List (List ℕ)) → s .before ≡ Ended → Faultless rules s rs → rs ≡ []
+pub after-last : (rules : ReadingRules) (s : State) (rs : List (List ℕ)) → s .before ≡ Ended → Faultless rules s rs → rs ≡ []
 unfolding allowed
 after-last rules s [] e h = refl
 after-last rules s (r ∷ rs) e h = absurd (wrong-not-fine (rw e at (judged-facts rules s r (h .0) .allowed)))
 
 -- ---- an accepted file
 
-pub record Accepted (rules : Rules) (file : List ℕ) : Type 0 where
+pub record Accepted (rules : ReadingRules) (file : List ℕ) : Type 0 where
   pub long : 188 ≤ length file
   pub short : length file ≤ 940000
   pub even : length file % 94 ≡ 0
@@ -146,10 +146,10 @@ pub record Accepted (rules : Rules) (file : List ℕ) : Type 0 where
   -- the first of them
   pub first : (rest : List (List ℕ)) × (recordsOf file ≡ take 94 file ∷ rest)
 
-pub accepted-facts : (rules : Rules) (file : List ℕ) → reading rules file ≡ accepted → Accepted rules file
+pub facts-by : (rules : ReadingRules) (file : List ℕ) → readingBy rules file ≡ accepted → Accepted rules file
 unfolding lengthGood recordsOf parts
-accepted-facts rules file h =
-    let x = accepted-exactly rules file .0 h in
+facts-by rules file h =
+    let x = accepted-by rules file .0 h in
     let w = within-range 188 940000 (length file) (and-l (within 188 940000 (length file)) (eqb (length file % 94) 0) (x .0)) in
     let e : length file % 94 ≡ 0 = eqb→eq (length file % 94) 0 (and-r (within 188 940000 (length file)) (eqb (length file % 94) 0) (x .0)) in
     let m : length file ≡ length file / 94 * 94 = omega (arith, div-add-mod' (length file) 94) in
@@ -166,3 +166,7 @@ accepted-facts rules file h =
     cut : (n : ℕ) → 0 < n → (rest : List (List ℕ)) × (parts 94 n file ≡ take 94 file ∷ rest)
     cut zero p = absurd (omega arith)
     cut (suc n) p = (parts 94 n (drop 94 file), refl)
+
+pub accepted-facts : (rules : Rules) (file : List ℕ) → reading rules file ≡ accepted → Accepted (inHouse rules) file
+unfolding reading
+accepted-facts rules file h = facts-by (inHouse rules) file h

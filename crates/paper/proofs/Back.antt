@@ -13,6 +13,7 @@ use Rattle.paper.specs.declared.rules.Rules.{Rules}
 use Rattle.paper.specs.Answers.{accepted}
 use Rattle.paper.specs.Fields.{bytes}
 use Rattle.paper.specs.Kinds.{kindOf}
+use Rattle.paper.specs.Records.{ReadingRules, inHouse}
 use Rattle.paper.specs.Reading.{Reckoning, nothingCounted, counted, start, beforeNext, next, parts, recordsOf, reading}
 use Rattle.paper.specs.Writing.{blanks, joined, owed, settled, withControls, closing}
 use Rattle.paper.specs.Trays.{trayRecords, batchesAfter, individualsAfter, numbering, build, zeroed, marked, stripped, strip}
@@ -75,7 +76,7 @@ normals-sized (r ∷ rs) b n z = (go (kindOf r), normals-sized rs (batchesAfter 
     go Other = l
 
 -- a file of records, the first of which is a header
-module _ (rules : Rules) (head : List ℕ) (rs : List (List ℕ)) (z : Sized 94 (head ∷ rs)) (h : Faultless rules start (head ∷ rs)) where
+module _ (rules : ReadingRules) (head : List ℕ) (rs : List (List ℕ)) (z : Sized 94 (head ∷ rs)) (h : Faultless rules start (head ∷ rs)) where
   k : kindOf head ≡ FileHeader
   k = first-header rules head rs h
 
@@ -117,4 +118,4 @@ pub build-strips-back : (rules : Rules) (file : List ℕ) → reading rules file
 build-strips-back rules file h =
     let a = accepted-facts rules file h in
     let e = a .first .1 in
-    back-file rules (take 94 file) (a .first .0) (rw e at (a .sized)) (rw e at (a .reads)) file (rw e at (a .whole)) e
+    back-file (inHouse rules) (take 94 file) (a .first .0) (rw e at (a .sized)) (rw e at (a .reads)) file (rw e at (a .whole)) e

@@ -16,7 +16,7 @@ use Rattle.paper.specs.Checks.{fine}
 use Rattle.paper.specs.Fields.{field, within, every, good, digits, same, is}
 use Rattle.paper.specs.Entities.{entityValue, ofCurrency, entityField, entity, onRoster}
 use Rattle.paper.specs.Kinds.{kindOf, codeOf, known}
-use Rattle.paper.specs.Records.{fileHeader, amountOf, counterGood}
+use Rattle.paper.specs.Records.{ReadingRules, inHouse, fileHeader, amountOf, counterGood}
 use Rattle.paper.specs.Reading.{counted, State, start, flag, beforeNext, next, fields, recordsOf, reading}
 use Rattle.paper.specs.Demands.{Faultless}
 use Rattle.paper.proofs.Tests.{and-l, and-r, or-go, within-range, same→eq}
@@ -51,7 +51,7 @@ pub record IndividualFacts (rules : Rules) (r : List ℕ) : Type 0 where
   pub flag : T (is (field r 79 79) "0" || is (field r 79 79) "1")
 
 abbrev pub Facts : Rules → Kind → List ℕ → Type 0
-Facts rules FileHeader r = fileHeader rules r ≡ fine
+Facts rules FileHeader r = fileHeader (inHouse rules) r ≡ fine
 Facts rules BatchHeader r = BatchRead rules r
 Facts rules Individual r = IndividualFacts rules r
 Facts rules Additional r = Unit {0}
@@ -93,12 +93,12 @@ individual-of rules header r n l b o =
       flag = o .flag;
     }
 
-all-facts : (rules : Rules) (rs : List (List ℕ)) (s : State) → Sized 94 rs → In rules (s .before) (s .counts .header) → Faultless rules s rs
+all-facts : (rules : Rules) (rs : List (List ℕ)) (s : State) → Sized 94 rs → In rules (s .before) (s .counts .header) → Faultless (inHouse rules) s rs
     → AllFacts rules rs
 unfolding next beforeNext counted fields flag
 all-facts rules [] s z i h = tt
 all-facts rules (r ∷ rs) s z i h =
-    let j = judged-facts rules s r (h .0) in
+    let j = judged-facts (inHouse rules) s r (h .0) in
     let p = go (s .before) (kindOf r) (j .order) i (j .fields) in
     (j .good, p .0, all-facts rules rs (next s r) (z .1) (p .1) (h .1))
   where
@@ -106,10 +106,10 @@ all-facts rules (r ∷ rs) s z i h =
     inside true x = x
     inside false x = x
 
-    go : (b : Before) (k : Kind) → Follows b k → In rules b (s .counts .header) → fields k rules s r ≡ fine
+    go : (b : Before) (k : Kind) → Follows b k → In rules b (s .counts .header) → fields k (inHouse rules) s r ≡ fine
         → Facts rules k r × In rules (beforeNext k r) (counted k (s .counts) r .header)
     go b k file-begins i f = (f, tt)
-    go b k batch-opens i f = (batch-read rules r f, batch-read rules r f)
+    go b k batch-opens i f = (let b = batch-read rules (s .counts .batches) r f in (b, b))
     go b k file-ends i f = (tt, tt)
     go b k first-individual i f = (individual-of rules (s .counts .header) r (s .counts .counter) (z .0) i (individual-read rules (s .counts .header) (s .counts .counter) r f), inside (is (field r 79 79) "1") i)
     go b k its-additional i f = (tt, i)
@@ -126,11 +126,11 @@ abbrev pub Shaped : Before → List (List ℕ) → Type 0
 Shaped b [] = b ≡ Ended
 Shaped b (r ∷ rs) = Follows b (kindOf r) × Shaped (beforeNext (kindOf r) r) rs
 
-shaped : (rules : Rules) (rs : List (List ℕ)) (s : State) → Faultless rules s rs → Shaped (s .before) rs
+shaped : (rules : ReadingRules) (rs : List (List ℕ)) (s : State) → Faultless rules s rs → Shaped (s .before) rs
 unfolding next
 shaped rules [] s h = h
 shaped rules (r ∷ rs) s h = (judged-facts rules s r (h .0) .order, shaped rules rs (next s r) (h .1))
 
 pub file-shaped : (rules : Rules) (file : List ℕ) → reading rules file ≡ accepted → Shaped Nothing (recordsOf file)
 unfolding start
-file-shaped rules file h = shaped rules (recordsOf file) start (accepted-facts rules file h .reads)
+file-shaped rules file h = shaped (inHouse rules) (recordsOf file) start (accepted-facts rules file h .reads)

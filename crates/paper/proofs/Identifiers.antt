@@ -14,7 +14,7 @@ use Rattle.paper.specs.declared.rules.Rules.{Rules}
 use Rattle.paper.specs.Answers.{Said, accepted, refused, andThen, require}
 use Rattle.paper.specs.Checks.{fine}
 use Rattle.paper.specs.Fields.{field, among, every, digit, capital, identifierField}
-use Rattle.paper.specs.Records.{fileHeader}
+use Rattle.paper.specs.Records.{inHouse, fileHeader}
 use Rattle.paper.specs.Reading.{start, fields, reading}
 use Rattle.paper.specs.Sessions.{Session, newSession, originOf, identifierIf, identifierOf, keyOf, answerTo, sessionAfter, presenting}
 use Rattle.paper.specs.Demands.{Faultless, withAccepted, Arose, opened, presented, identifiersFrom}
@@ -27,17 +27,17 @@ use Rattle.paper.proofs.Own.{presented-new}
 
 -- ---- an identifier is one of 36
 
-header-identifier : (rules : Rules) (r : List ℕ) → fileHeader rules r ≡ fine → T (identifierField (field r 34 34))
+header-identifier : (rules : Rules) (r : List ℕ) → fileHeader (inHouse rules) r ≡ fine → T (identifierField (field r 34 34))
 unfolding fileHeader
 header-identifier rules r h = search (also-l, also-r, need-T) depth 12
 
 -- the header of an accepted file
-pub header-read : (rules : Rules) (file : List ℕ) → reading rules file ≡ accepted → fileHeader rules (take 94 file) ≡ fine
+pub header-read : (rules : Rules) (file : List ℕ) → reading rules file ≡ accepted → fileHeader (inHouse rules) (take 94 file) ≡ fine
 unfolding fields
 header-read rules file h =
     let a = accepted-facts rules file h in
-    let rd : Faultless rules start (take 94 file ∷ a .first .0) = rw (a .first .1) at (a .reads) in
-    subst (λ (k : Kind). fields k rules start (take 94 file) ≡ fine) (first-header rules (take 94 file) (a .first .0) rd) (judged-facts rules start (take 94 file) (rd .0) .fields)
+    let rd : Faultless (inHouse rules) start (take 94 file ∷ a .first .0) = rw (a .first .1) at (a .reads) in
+    subst (λ (k : Kind). fields k (inHouse rules) start (take 94 file) ≡ fine) (first-header (inHouse rules) (take 94 file) (a .first .0) rd) (judged-facts (inHouse rules) start (take 94 file) (rd .0) .fields)
 
 -- a digit is 0 to 9, a capital 10 to 35
 abbrev Identifies : ℕ → Type 0

@@ -5,6 +5,8 @@ pub mod Marked
 pub mod Beyond
 pub mod Lists
 pub mod Digits
+pub mod Every
+pub mod Spelling
 pub mod Sums
 pub mod Exactly
 pub mod ReadingNumbers

@@ -6,7 +6,7 @@ use mathlib.Core.Bool.{cond}
 use mathlib.Core.List.{List}
 use lib.Dec.{eqb, T}
 use Rattle.paper.specs.declared.answer.Fault.{Fault}
-use Rattle.paper.specs.declared.answer.Fault.the-variants.{Length, Format, Amount, Additional, Counter, Date, Reserved, Account, Reference, Information, Currency, Roster, Room, Tray, Entity, Identifier}
+use Rattle.paper.specs.declared.answer.Fault.the-variants.{Length, Format, Amount, Additional, Counter, Date, Reserved, Account, Reference, Information, Currency, Roster, Room, Tray, Entity, Identifier, Reason}
 use Rattle.paper.specs.declared.answer.Answer.{Answer}
 use Rattle.paper.specs.declared.answer.Answer.the-variants.{Accepted, Refused}
 use Rattle.paper.specs.declared.answer.Output.{Output}
@@ -23,7 +23,7 @@ named n =
     cond (eqb n 201) Length (cond (eqb n 17) Format (cond (eqb n 19) Amount (cond (eqb n 25) Additional
     (cond (eqb n 27) Counter (cond (eqb n 75) Date (cond (eqb n 77) Reserved (cond (eqb n 78) Account
     (cond (eqb n 79) Reference (cond (eqb n 87) Information (cond (eqb n 203) Currency (cond (eqb n 204) Roster
-    (cond (eqb n 206) Room (cond (eqb n 207) Tray (cond (eqb n 208) Entity Identifier))))))))))))))
+    (cond (eqb n 206) Room (cond (eqb n 207) Tray (cond (eqb n 208) Entity (cond (eqb n 209) Identifier Reason)))))))))))))))
 
 named-number : (f : Fault) → named (numberOf f) ≡ f
 unfolding named
@@ -43,6 +43,7 @@ named-number Room = refl
 named-number Tray = refl
 named-number Entity = refl
 named-number Identifier = refl
+named-number Reason = refl
 
 pub own-number : (f g : Fault) → numberOf f ≡ numberOf g → f ≡ g
 own-number f g h = sym (named-number f) ∙ ap named h ∙ named-number g
@@ -66,6 +67,7 @@ in-table Room = tt
 in-table Tray = tt
 in-table Entity = tt
 in-table Identifier = tt
+in-table Reason = tt
 
 -- so every answer whose place is known ends as it must
 module _ (stands : Said → Type 0) where

@@ -17,6 +17,7 @@ use Rattle.paper.specs.Checks.{fine}
 use Rattle.paper.specs.Fields.{field, is}
 use Rattle.paper.specs.Entities.{entity}
 use Rattle.paper.specs.Kinds.{kindOf}
+use Rattle.paper.specs.Records.{inHouse}
 use Rattle.paper.specs.Reading.{counted, State, start, flag, beforeNext, next, fields, parts, recordsOf, reading}
 use Rattle.paper.specs.Postings.{Posting, posting, postedBy, senderAfter, postingsFrom, postings, ownPostings}
 use Rattle.paper.specs.Demands.{Faultless}
@@ -47,12 +48,12 @@ Sent Flagged b n = n ≡ entity (field b 80 87)
 Sent Inside b n = n ≡ entity (field b 80 87)
 Sent Ended b n = Unit {0}
 
-own-postings : (rules : Rules) (rs : List (List ℕ)) (s : State) (n : ℕ) → Sent (s .before) (s .counts .header) n → Faultless rules s rs
+own-postings : (rules : Rules) (rs : List (List ℕ)) (s : State) (n : ℕ) → Sent (s .before) (s .counts .header) n → Faultless (inHouse rules) s rs
     → postingsFrom n rs ≡ ownPostings rs
 unfolding postingsFrom ownPostings next beforeNext counted fields flag postedBy senderAfter
 own-postings rules [] s n i h = refl
 own-postings rules (r ∷ rs) s n i h =
-    let j = judged-facts rules s r (h .0) in
+    let j = judged-facts (inHouse rules) s r (h .0) in
     let p = go (s .before) (kindOf r) (j .order) i (j .fields) in
     ap₂ _++_ (p .0) (own-postings rules rs (next s r) (senderAfter (kindOf r) n r) (p .1) (h .1))
   where
@@ -60,13 +61,13 @@ own-postings rules (r ∷ rs) s n i h =
     inside true x = x
     inside false x = x
 
-    six : n ≡ entity (field (s .counts .header) 80 87) → fields Individual rules s r ≡ fine
+    six : n ≡ entity (field (s .counts .header) 80 87) → fields Individual (inHouse rules) s r ≡ fine
         → postedBy Individual n r ≡ postedBy Individual (entity (field r 80 87)) r
     six i f =
         let o = individual-read rules (s .counts .header) (s .counts .counter) r f in
         ap (λ (m : ℕ). postedBy Individual m r) (i ∙ ap entity (sym (own-sender (s .counts .header) (s .counts .counter) r (o .counter))))
 
-    go : (b : Before) (k : Kind) → Follows b k → Sent b (s .counts .header) n → fields k rules s r ≡ fine
+    go : (b : Before) (k : Kind) → Follows b k → Sent b (s .counts .header) n → fields k (inHouse rules) s r ≡ fine
         → (postedBy k n r ≡ postedBy k (entity (field r 80 87)) r) × Sent (beforeNext k r) (counted k (s .counts) r .header) (senderAfter k n r)
     go b k file-begins i f = (refl, tt)
     go b k batch-opens i f = (refl, refl)

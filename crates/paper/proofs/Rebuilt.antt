@@ -9,12 +9,12 @@ use Rattle.paper.specs.declared.record.Before.{Before}
 use Rattle.paper.specs.declared.record.Before.the-variants.{Nothing, Between, Opened, Flagged, Inside, Ended}
 use Rattle.paper.specs.declared.record.Kind.{Kind}
 use Rattle.paper.specs.declared.record.Kind.the-variants.{BatchHeader, Individual, Additional, BatchControl, FileControl}
-use Rattle.paper.specs.declared.rules.Rules.{Rules}
 use Rattle.paper.specs.Checks.{fine}
 use Rattle.paper.specs.Fields.{field, is}
 use Rattle.paper.specs.Kinds.{kindOf}
 use Rattle.paper.specs.declared.record.Tally.{Tally}
 use Rattle.paper.specs.Controls.{plus, withIndividual, withAdditional}
+use Rattle.paper.specs.Records.{ReadingRules}
 use Rattle.paper.specs.Reading.{Reckoning, counted, State, flag, beforeNext, next, fields}
 use Rattle.paper.specs.Writing.{numbered, batchControlOf, fileControlOf, owed, settled, owedBefore, settledBefore, ending, withControls}
 use Rattle.paper.specs.Trays.{batchesAfter, individualsAfter, numberedBy, numbering, zeroed, marked, stripped}
@@ -62,7 +62,7 @@ owes Ended c = []
 abbrev pub bodies : List (List ℕ) → List (List ℕ)
 bodies rs = map (drop 2) (stripped rs)
 
-abbrev pub Rebuilt : Rules → List (List ℕ) → Type 0
+abbrev pub Rebuilt : ReadingRules → List (List ℕ) → Type 0
 Rebuilt rules rs = (s : State) (c : Reckoning) (n : ℕ) (w : Before) → s .before ≡ w → Link w (s .counts) c → Faultless rules s rs
     → withControls c (numbering (c .batches) n (bodies rs)) ≡ owes w c ++ normals (c .batches) n rs
 
@@ -86,7 +86,7 @@ unfolding settled counted
 settled-batches zero c = refl
 settled-batches (suc n) c = refl
 
-module _ (rules : Rules) (r : List ℕ) (rs : List (List ℕ)) (l : length r ≡ 94) (ih : Rebuilt rules rs) (s : State) (c : Reckoning) (n : ℕ) where
+module _ (rules : ReadingRules) (r : List ℕ) (rs : List (List ℕ)) (l : length r ≡ 94) (ih : Rebuilt rules rs) (s : State) (c : Reckoning) (n : ℕ) where
   -- a record of the tray is written under its number
   numbered-kind : (m : ℕ) → kindOf (numbered m r) ≡ kindOf r
   numbered-kind m = kind-numbered m r (omega arith)
@@ -172,7 +172,7 @@ module _ (rules : Rules) (r : List ℕ) (rs : List (List ℕ)) (l : length r ≡
       ∙ ap (λ (x : ℕ). fileControlOf (s .counts .place + 1) x (s .counts .closed)) (sym (i .batches))
       ∙ total-normal r l (c .batches) n (s .counts .place + 1) (s .counts .batches) (s .counts .closed) k (total-read (s .counts .place + 1) (s .counts .batches) (s .counts .closed) r f)))
 
-pub rebuilt : (rules : Rules) (rs : List (List ℕ)) → Sized 94 rs → Rebuilt rules rs
+pub rebuilt : (rules : ReadingRules) (rs : List (List ℕ)) → Sized 94 rs → Rebuilt rules rs
 unfolding next beforeNext
 rebuilt rules [] z s c n w e link h = absurd (subst (λ (x : Before). Link x (s .counts) c) (sym e ∙ h) link)
 rebuilt rules (r ∷ rs) z s c n w e link h =

@@ -11,6 +11,7 @@ use Rattle.paper.specs.declared.record.Kind.the-variants.{FileHeader, Ba
 use Rattle.paper.specs.declared.rules.Rules.{Rules}
 use Rattle.paper.specs.Answers.{accepted}
 use Rattle.paper.specs.Kinds.{kind, kindOf}
+use Rattle.paper.specs.Records.{inHouse}
 use Rattle.paper.specs.Reading.{Reckoning, nothingCounted, counted, recordsOf, reading}
 use Rattle.paper.specs.Writing.{numbered, batchControlOf, fileControlOf, owed, owedBefore, ending, withControls}
 use Rattle.paper.specs.Extract.{Item, Batch, Groups, prepended, grouped, batchesOf, batchesTo, itemRecords, batchRecords, headerFor, extract}
@@ -61,7 +62,7 @@ extract-cut rules e file h =
     let a = accepted-facts rules file h in
     let hd : List ℕ = headerFor (rules .currency) e (take 94 file) in
     let l : length (take 94 file) ≡ 94 = length-take-le 94 file (omega arith) in
-    let k : kindOf (take 94 file) ≡ FileHeader = first-header rules (take 94 file) (a .first .0) (rw (a .first .1) at (a .reads)) in
+    let k : kindOf (take 94 file) ≡ FileHeader = first-header (inHouse rules) (take 94 file) (a .first .0) (rw (a .first .1) at (a .reads)) in
     let w : length hd ≡ 94 = length-header (rules .currency) e (take 94 file) l in
     record {
       header = (kind-header (rules .currency) e (take 94 file) l ∙ k, w);

@@ -14,6 +14,7 @@ use Rattle.paper.specs.declared.rules.Rules.{Rules}
 use Rattle.paper.specs.Answers.{accepted, require}
 use Rattle.paper.specs.Fields.{bytes, field, is}
 use Rattle.paper.specs.Kinds.{kind, kindOf}
+use Rattle.paper.specs.Records.{inHouse}
 use Rattle.paper.specs.Reading.{Reckoning, nothingCounted, counted, parts, reading}
 use Rattle.paper.specs.Writing.{joined, numbered, batchControlOf, fileControlOf, owed, owedBefore, ending, withControls, closing}
 use Rattle.paper.specs.Trays.{trayRecords, markGood, trayRecordGood, trayFault, batchesAfter, individualsAfter, numberedBy, numbering, build, zeroed, marked, stripped, strip}
@@ -151,5 +152,5 @@ pub round-trip : (rules : Rules) (header tray : List ℕ) → length header ≡ 
 unfolding build closing joined
 round-trip rules header tray h m f q =
     let a = accepted-facts rules (build header tray) q in
-    let k : kindOf (take 94 (build header tray)) ≡ FileHeader = first-header rules (take 94 (build header tray)) (a .first .0) (rw (a .first .1) at (a .reads)) in
+    let k : kindOf (take 94 (build header tray)) ≡ FileHeader = first-header (inHouse rules) (take 94 (build header tray)) (a .first .0) (rw (a .first .1) at (a .reads)) in
     round header tray h (ap kindOf (sym (take-at header _ 94 h)) ∙ k) m f

@@ -84,7 +84,7 @@ listed-append : (rules : Rules) (is js : List Item) → AllListed rules is → A
 listed-append rules [] js p q = q
 listed-append rules (i ∷ is) js p q = (p .0, p .1, listed-append rules is js (p .2) q)
 
-within-of : (low high n : ℕ) → low ≤ n → n ≤ high → T (within low high n)
+pub within-of : (low high n : ℕ) → low ≤ n → n ≤ high → T (within low high n)
 within-of low high n l h = go (leb low n) (le→leb low n l)
   where
     go : (b : Bool) → T b → T (b && leb n high)

@@ -14,11 +14,12 @@ use Rattle.paper.specs.Answers.{Said, accepted, refused, andThen, requir
 use Rattle.paper.specs.Checks.{fine}
 use Rattle.paper.specs.Fields.{among, every}
 use Rattle.paper.specs.Kinds.{kindOf, allowed}
-use Rattle.paper.specs.Reading.{nothingCounted, State, start, beforeNext, next, judged, recordsOf, reading}
+use Rattle.paper.specs.Records.{ReadingRules, inHouse}
+use Rattle.paper.specs.Reading.{nothingCounted, State, start, beforeNext, next, judged, recordsOf, readingBy, reading}
 use Rattle.paper.specs.Demands.{untied, NoFileControl, StandsIf, StandsAt, FirstFault}
 use Rattle.paper.proofs.Tests.{T-of, and-l, and-r}
 use Rattle.paper.proofs.Lists.{length-parts}
-use Rattle.paper.proofs.Exactly.{wrong-not-fine, refused-exactly, next-place}
+use Rattle.paper.proofs.Exactly.{wrong-not-fine, refused-by, next-place}
 use Rattle.paper.proofs.Accepted.{judged-facts}
 use Rattle.paper.proofs.ReadingNumbers.{recordNumbers, first-named}
 
@@ -38,12 +39,12 @@ not-in-both (x ∷ xs) ys h n p q = go (eqb n x) refl p (λ t. not-in-both xs ys
 
 -- ---- the first fault of records stands at one of them, and one past the last only where no 9 is among them
 
-ended-faulty : (rules : Rules) (s : State) (r : List ℕ) → s .before ≡ Ended → judged rules s r ≡ fine → ⊥
+ended-faulty : (rules : ReadingRules) (s : State) (r : List ℕ) → s .before ≡ Ended → judged rules s r ≡ fine → ⊥
 unfolding allowed
 ended-faulty rules s r e h = wrong-not-fine (rw e at (judged-facts rules s r h .allowed))
 
 -- behind a 9 the first record is at fault
-behind-control : (rules : Rules) (rs : List (List ℕ)) (s : State) (n place : ℕ) → s .before ≡ Ended → FirstFault rules s rs n place
+behind-control : (rules : ReadingRules) (rs : List (List ℕ)) (s : State) (n place : ℕ) → s .before ≡ Ended → FirstFault rules s rs n place
     → place < s .counts .place + length rs
 behind-control rules [] s n place e f = absurd (f .0 e)
 behind-control rules (r ∷ rs) s n place e (inl f) = omega (arith, f .1)
@@ -52,7 +53,7 @@ behind-control rules (r ∷ rs) s n place e (inr f) = absurd (ended-faulty rules
 abbrev Past : ℕ → List (List ℕ) → ℕ → ℕ → Type 0
 Past from rs n place = (place < from + length rs) ⊎ ((place ≡ from + length rs) × (n ≡ 17) × NoFileControl rs)
 
-fault-stands : (rules : Rules) (rs : List (List ℕ)) (s : State) (n place : ℕ) → FirstFault rules s rs n place → Past (s .counts .place) rs n place
+fault-stands : (rules : ReadingRules) (rs : List (List ℕ)) (s : State) (n place : ℕ) → FirstFault rules s rs n place → Past (s .counts .place) rs n place
 unfolding next beforeNext
 fault-stands rules [] s n place f = inr (omega (arith, f .2), f .1, tt)
 fault-stands rules (r ∷ rs) s n place (inl f) = inl (omega (arith, f .1))
@@ -66,9 +67,9 @@ fault-stands rules (r ∷ rs) s n place (inr f) = go (fault-stands rules rs (nex
     go (inr p) =
         inr (omega (arith, next-place s r, p .0), p .1, ((λ k. let l = behind-control rules rs (next s r) n place (ended k) (f .1) in omega (arith, p .0)), p .2))
 
-pub reading-stands : (rules : Rules) (file : List ℕ) → StandsAt file (reading rules file)
+pub stands-by : (rules : ReadingRules) (file : List ℕ) → StandsAt file (readingBy rules file)
 unfolding start nothingCounted recordsOf among every
-reading-stands rules file = go (reading rules file) refl
+stands-by rules file = go (readingBy rules file) refl
   where
     records : length (recordsOf file) ≡ length file / 94
     records = length-parts 94 (length file / 94) file
@@ -78,12 +79,16 @@ reading-stands rules file = go (reading rules file) refl
     tied n place f false e =
         ⊎-elim (λ l. inl (omega (arith, records))) (λ p. inr (p .0 ∙ omega (arith, records), p .1, p .2)) (fault-stands rules (recordsOf file) start n place f)
 
-    go : (a : Said) → reading rules file ≡ a → StandsAt file a
+    go : (a : Said) → readingBy rules file ≡ a → StandsAt file a
     go accepted e = tt
     go (refused n place) e =
         ⊎-elim (λ x. rw (x .1) (x .2))
         (λ x. tied n place (x .1) (among untied n) refl)
-        (refused-exactly rules file .0 e)
+        (refused-by rules file .0 e)
+
+pub reading-stands : (rules : Rules) (file : List ℕ) → StandsAt file (reading rules file)
+unfolding reading
+reading-stands rules file = stands-by (inHouse rules) file
 
 -- ---- answers in turn
 

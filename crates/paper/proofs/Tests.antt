@@ -14,6 +14,10 @@ pub and-r : (a b : Bool) → T (a && b) → T b
 and-r true b t = t
 and-r false b t = absurd t
 
+pub and-both : (a b : Bool) → T a → T b → T (a && b)
+and-both true b s t = t
+and-both false b s t = s
+
 pub or-go : {A : Type 0} (a b : Bool) → T (a || b) → (T a → A) → (T b → A) → A
 or-go true b t f g = f tt
 or-go false b t f g = g t

@@ -3,7 +3,7 @@ use Prim.Native.Nat.{ℕ}
 use mathlib.Core.Bool.{Bool, true, false}
 use mathlib.Core.List.{List, [], _∷_}
 use Rattle.paper.specs.declared.answer.Fault.{Fault}
-use Rattle.paper.specs.declared.answer.Fault.the-variants.{Length, Format, Amount, Additional, Counter, Date, Reserved, Account, Reference, Information, Currency, Roster, Room, Tray, Entity, Identifier}
+use Rattle.paper.specs.declared.answer.Fault.the-variants.{Length, Format, Amount, Additional, Counter, Date, Reserved, Account, Reference, Information, Currency, Roster, Room, Tray, Entity, Identifier, Reason}
 use Rattle.paper.specs.declared.answer.Answer.{Answer}
 use Rattle.paper.specs.declared.answer.Answer.the-variants.{Accepted, Refused}
 
@@ -30,10 +30,11 @@ numberOf Room = 206
 numberOf Tray = 207
 numberOf Entity = 208
 numberOf Identifier = 209
+numberOf Reason = 214
 
 -- the numbers of the table
 abbrev pub tableNumbers : List ℕ
-tableNumbers = 201 ∷ 17 ∷ 19 ∷ 25 ∷ 27 ∷ 75 ∷ 77 ∷ 78 ∷ 79 ∷ 87 ∷ 203 ∷ 204 ∷ 206 ∷ 207 ∷ 208 ∷ 209 ∷ []
+tableNumbers = 201 ∷ 17 ∷ 19 ∷ 25 ∷ 27 ∷ 75 ∷ 77 ∷ 78 ∷ 79 ∷ 87 ∷ 203 ∷ 204 ∷ 206 ∷ 207 ∷ 208 ∷ 209 ∷ 214 ∷ []
 
 -- what an answer of the library says
 abbrev pub said : Answer → Said

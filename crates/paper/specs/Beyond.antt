@@ -14,7 +14,7 @@ use Rattle.paper.specs.Claims.{characters, dates, noDates, reads, opens,
 use Rattle.paper.specs.Marked.{today, cell}
 
 -- all entities but one
-abbrev allBut : ℕ → Rules
+abbrev pub allBut : ℕ → Rules
 allBut e = record { date = 250630; currency = Pesos; roster = set (false ∷ replicate 499 true) e false }
 
 -- L with a rejection instead of the reversal: 403 returns a debit of 7500 to 401, under motive R10

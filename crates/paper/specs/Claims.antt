@@ -15,6 +15,7 @@ use Rattle.paper.specs.Reading.{reading}
 use Rattle.paper.specs.Sessions.{Session, opening, cellOf, presenting}
 use Rattle.paper.specs.Listing.{positionsOf}
 use Rattle.paper.specs.Buffers.{Outcome, extracting, building, stripping}
+use Rattle.paper.specs.Receiving.{Showing, receiving, showing, textIn}
 
 -- the good ones of n bytes from b on
 unfoldable pub goodFrom : ℕ → ℕ → List ℕ
@@ -39,6 +40,9 @@ pub data Claim : Type 0 where
   extracts : Rules → ℕ → List ℕ → List ℕ → Outcome → Claim
   builds : Rules → List ℕ → List ℕ → List ℕ → Outcome → Claim
   strips : Rules → List ℕ → List ℕ → Outcome → Claim
+  receives : Rules → ℕ → List ℕ → Said → Claim
+  shows : Rules → ℕ → List ℕ → List ℕ → ℕ → Showing → Claim
+  tells : Rules → ℕ → List ℕ → List ℕ → ℕ → String → Claim
 
 abbrev pub IsTrue : Claim → Type 0
 IsTrue (characters text) = goodFrom 256 0 ≡ bytes text
@@ -53,6 +57,9 @@ IsTrue (prints file text) = positionsOf file ≡ textLines text
 IsTrue (extracts rules e file buffer outcome) = extracting rules e file buffer ≡ outcome
 IsTrue (builds rules header tray buffer outcome) = building rules header tray buffer ≡ outcome
 IsTrue (strips rules file buffer outcome) = stripping rules file buffer ≡ outcome
+IsTrue (receives rules e file answer) = receiving rules e file ≡ answer
+IsTrue (shows rules e file motives place shown) = showing rules e file motives place ≡ shown
+IsTrue (tells rules e file motives place text) = textIn (showing rules e file motives place .text) file motives ≡ bytes text
 
 -- a row of a table: the number of its case, and what is claimed
 pub data Row : Type 0 where

@@ -17,7 +17,7 @@ use Rattle.paper.specs.Answers.{Said, accepted, refused, tableNumbers}
 use Rattle.paper.specs.Checks.{fine, wrong}
 use Rattle.paper.specs.Fields.{field, within, among}
 use Rattle.paper.specs.Kinds.{kindOf}
-use Rattle.paper.specs.Records.{destinationIn, senderIn}
+use Rattle.paper.specs.Records.{ReadingRules, inHouse, destinationIn, senderIn}
 use Rattle.paper.specs.Reading.{State, start, judged, next, recordsOf, lengthGood}
 use Rattle.paper.specs.Postings.{Posting, postings, position, sent, received}
 use Rattle.paper.specs.Sessions.{Session, opening, presenting, originOf, identifierOf}
@@ -68,24 +68,31 @@ Answered stands (refused n place) = T (among tableNumbers n) × stands (refused 
 -- ---- exactly when
 
 -- the records from a state on are each without fault, and end with a 9
-abbrev pub Faultless : Rules → State → List (List ℕ) → Type 0
+abbrev pub Faultless : ReadingRules → State → List (List ℕ) → Type 0
 Faultless rules s [] = s .before ≡ Ended
 Faultless rules s (r ∷ rs) = (judged rules s r ≡ fine) × Faultless rules (next s r) rs
 
 -- the first fault among them has this number and place
-abbrev pub FirstFault : Rules → State → List (List ℕ) → ℕ → ℕ → Type 0
+abbrev pub FirstFault : ReadingRules → State → List (List ℕ) → ℕ → ℕ → Type 0
 FirstFault rules s [] n place = (s .before ≡ Ended → ⊥) × (n ≡ 17) × (place ≡ s .counts .place)
 FirstFault rules s (r ∷ rs) n place =
     ((judged rules s r ≡ wrong n) × (place ≡ s .counts .place)) ⊎ ((judged rules s r ≡ fine) × FirstFault rules (next s r) rs n place)
 
--- 01 accepts a file: its length is good, its records are each without fault, and they end with a 9
-abbrev pub Accepts : Rules → List ℕ → Type 0
-Accepts rules file = T (lengthGood (length file)) × Faultless rules start (recordsOf file)
+-- whoever reads accepts a file: its length is good, its records are each without fault, and they end with a 9
+abbrev pub AcceptsBy : ReadingRules → List ℕ → Type 0
+AcceptsBy rules file = T (lengthGood (length file)) × Faultless rules start (recordsOf file)
 
--- the first fault of a file: 201 at 0 for its length, else that of its records
-abbrev pub Faulty : Rules → List ℕ → ℕ → ℕ → Type 0
-Faulty rules file n place =
+-- the first fault that is found in it: 201 at 0 for its length, else that of its records
+abbrev pub FaultyBy : ReadingRules → List ℕ → ℕ → ℕ → Type 0
+FaultyBy rules file n place =
     ((lengthGood (length file) ≡ false) × (n ≡ 201) × (place ≡ 0)) ⊎ ((lengthGood (length file) ≡ true) × FirstFault rules start (recordsOf file) n place)
+
+-- 01 accepts a file, or finds its first fault: the house reads
+abbrev pub Accepts : Rules → List ℕ → Type 0
+Accepts rules file = AcceptsBy (inHouse rules) file
+
+abbrev pub Faulty : Rules → List ℕ → ℕ → ℕ → Type 0
+Faulty rules file n place = FaultyBy (inHouse rules) file n place
 
 -- ---- after any calls
 

@@ -14,6 +14,7 @@ pub mod Listing
 pub mod Extract
 pub mod Trays
 pub mod Buffers
+pub mod Receiving
 pub mod Demands
 pub mod Claims
 pub mod CaseL

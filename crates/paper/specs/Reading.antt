@@ -1,5 +1,5 @@
 -- The reading: 201, then records in order. In a record: characters, whether this type may stand here, then its fields. The first fault is the answer.
-use Prim.Native.Nat.{ℕ, zero, suc, _+_, _/_, _%_}
+use Prim.Native.Nat.{ℕ, zero, suc, _+_, _*_, _/_, _%_}
 use mathlib.Core.Bool.{Bool, true, false, _&&_}
 use mathlib.Core.List.{List, [], _∷_}
 use lib.Dec.{eqb}
@@ -13,7 +13,7 @@ use Rattle.paper.specs.Answers.{Said, accepted, refused, andThen, requir
 use Rattle.paper.specs.Checks.{Check, fine, wrong, need, _also_}
 use Rattle.paper.specs.Fields.{field, within, every, good, number}
 use Rattle.paper.specs.Kinds.{kindOf, allowed}
-use Rattle.paper.specs.Records.{fileHeader, batchHeader, individual, additional, flaggedIn}
+use Rattle.paper.specs.Records.{ReadingRules, inHouse, fileHeader, batchHeader, individual, additional, flaggedIn}
 use Rattle.paper.specs.declared.record.Tally.{Tally}
 use Rattle.paper.specs.Controls.{zeros, plus, withIndividual, withAdditional, batchControl, fileControl}
 
@@ -107,16 +107,16 @@ next s r = record {
 }
 
 -- a record's fields, by its type; one of no type may stand nowhere
-unfoldable pub fields : Kind → Rules → State → List ℕ → Check
+unfoldable pub fields : Kind → ReadingRules → State → List ℕ → Check
 fields FileHeader rules s r = fileHeader rules r
-fields BatchHeader rules s r = batchHeader rules r
+fields BatchHeader rules s r = batchHeader rules (s .counts .batches) r
 fields Individual rules s r = individual rules (s .counts .header) (s .counts .counter) r
 fields Additional rules s r = additional (s .individual) r
 fields BatchControl rules s r = batchControl (s .counts .header) (s .counts .batch) r
 fields FileControl rules s r = fileControl (s .counts .place + 1) (s .counts .batches) (s .counts .closed) r
 fields Other rules s r = wrong 17
 
-unfoldable pub judged : Rules → State → List ℕ → Check
+unfoldable pub judged : ReadingRules → State → List ℕ → Check
 judged rules s r =
     need (every good r) 17
     also allowed (s .before) (kindOf r)
@@ -137,7 +137,7 @@ at place fine = accepted
 at place (wrong n) = refused n place
 
 -- the records from a state on
-unfoldable pub readingFrom : Rules → State → List (List ℕ) → Said
+unfoldable pub readingFrom : ReadingRules → State → List (List ℕ) → Said
 readingFrom rules s [] = finish (s .before) (s .counts .place)
 readingFrom rules s (r ∷ rs) = let rest = readingFrom rules (next s r) rs in andThen (at (s .counts .place) (judged rules s r)) rest
 
@@ -149,8 +149,17 @@ parts width (suc n) l = take width l ∷ parts width n (drop width l)
 unfoldable pub recordsOf : List ℕ → List (List ℕ)
 recordsOf file = parts 94 (length file / 94) file
 
+-- the record at a place
+unfoldable pub recordAt : List ℕ → ℕ → List ℕ
+recordAt file place = take 94 (drop (place * 94) file)
+
 unfoldable pub lengthGood : ℕ → Bool
 lengthGood n = within 188 940000 n && eqb (n % 94) 0
 
+-- by the house or at a member's desk
+unfoldable pub readingBy : ReadingRules → List ℕ → Said
+readingBy rules file = let records = readingFrom rules start (recordsOf file) in andThen (require (lengthGood (length file)) 201 0) records
+
+-- by the house
 unfoldable pub reading : Rules → List ℕ → Said
-reading rules file = let records = readingFrom rules start (recordsOf file) in andThen (require (lengthGood (length file)) 201 0) records
+reading rules file = readingBy (inHouse rules) file

@@ -33,12 +33,14 @@ pub enum Fault {
     Roster,
     // 206: output buffer too short
     Room,
-    // 207: tray or header body malformed
+    // 207: tray or header body malformed, or motive list of another length
     Tray,
     // 208: entity number asked for
     Entity,
     // 209: identifier already accepted from this origin
     Identifier,
+    // 214: the record asked for is not a rejection's additional record
+    Reason,
 }
 
 // Acceptance, or a refusal with the place of the record it stands at.
@@ -75,6 +77,7 @@ impl Fault {
             Fault::Tray => 207,
             Fault::Entity => 208,
             Fault::Identifier => 209,
+            Fault::Reason => 214,
         }
     }
 }

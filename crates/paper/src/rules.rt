@@ -27,8 +27,15 @@ impl Rules {
     pub const ROSTER: usize = Currency::DOLLARS_ADD as usize;
 }
 
-// The date and currency alone, for where the roster is lent beside them.
+// Who reads a file: the house, or a member's desk, with its entity, what was handed out to it.
+pub enum Reader {
+    House,
+    Desk(u64),
+}
+
+// What a reading goes by, but for the roster, which is lent beside it.
 pub struct Terms {
     pub date: u64,
     pub currency: Currency,
+    pub reader: Reader,
 }

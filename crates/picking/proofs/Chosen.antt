@@ -7,7 +7,7 @@ use native.Mathlib.Numerals.{add-one}
 use lib.ListN.{length, getD, drop, length-drop}
 use lib.Seq.{length-take-le}
 use Rattle.paper.proofs.Lists.{Sized}
-use Rattle.field.specs.Places.{recordAt}
+use Rattle.paper.specs.Reading.{recordAt}
 use Rattle.picking.specs.Places.{Placed, chosen}
 
 pub record-length : (file : List ℕ) (p : ℕ) → p * 94 + 94 ≤ length file → length (recordAt file p) ≡ 94

@@ -14,7 +14,7 @@ use Rattle.paper.specs.Buffers.{over}
 use Rattle.paper.specs.Extract.{isTo}
 use Rattle.paper.specs.Kinds.{kindOf}
 use Rattle.field.proofs.Arms.{in-kinds}
-use Rattle.field.specs.Places.{recordAt}
+use Rattle.paper.specs.Reading.{recordAt}
 use Rattle.picking.specs.declared.Picking.{Picking}
 use Rattle.picking.specs.Notes.{isGoing, waiting, headerWaits, recordGoes, recordPasses, notesBy, notesWith}
 use Rattle.picking.specs.Picks.{Fits, ToNote, Moves}

@@ -7,7 +7,7 @@ use Rattle.paper.specs.declared.record.Kind.{Kind}
 use Rattle.paper.specs.declared.record.Kind.the-variants.{FileHeader, BatchHeader, Individual, Additional, BatchControl, FileControl, Other}
 use Rattle.paper.specs.Kinds.{kindOf}
 use Rattle.paper.specs.Extract.{isTo}
-use Rattle.field.specs.Places.{recordAt}
+use Rattle.paper.specs.Reading.{recordAt}
 
 -- whether the last individual record goes; while none of its batch does, the batch's header waits
 pub data Stage : Type 0 where

@@ -5,8 +5,7 @@ use mathlib.Core.Path.{_≡_}
 use lib.ListN.{length, getD}
 use Rattle.paper.specs.declared.rules.Rules.{Rules}
 use Rattle.paper.specs.Answers.{accepted}
-use Rattle.paper.specs.Reading.{reading}
-use Rattle.field.specs.Places.{recordAt}
+use Rattle.paper.specs.Reading.{reading, recordAt}
 
 -- a file that a reading accepted
 pub record Passed (file : List ℕ) : Type 0 where

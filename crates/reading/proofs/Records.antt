@@ -1,39 +1,25 @@
 -- One record: what its characters and its type's place say of the whole.
-use Prim.Native.Nat.{ℕ, zero, suc, _*_}
-use mathlib.Core.Bool.{Bool, true}
-use mathlib.Core.List.{List, [], _∷_}
-use mathlib.Core.Path.{_≡_, _∙_}
-use lib.Dec.{T}
+use Prim.Native.Nat.{ℕ, _*_}
+use mathlib.Core.Bool.{true}
+use mathlib.Core.List.{List}
+use mathlib.Core.Path.{_≡_}
 use lib.ListN.{take, drop}
 use Rattle.paper.specs.declared.record.Before.{Before}
 use Rattle.paper.specs.declared.record.Kind.{Kind}
-use Rattle.paper.specs.declared.rules.Rules.{Rules}
 use Rattle.paper.specs.Checks.{Check, fine, wrong, need, _also_}
 use Rattle.paper.specs.Fields.{every, good}
 use Rattle.paper.specs.Kinds.{kindOf, allowed}
-use Rattle.paper.specs.Reading.{judged}
-use Rattle.paper.proofs.Tests.{and-l, and-r, T-of, of-T}
+use Rattle.paper.specs.Records.{ReadingRules}
+use Rattle.paper.specs.Reading.{judged, recordAt}
+use Rattle.paper.proofs.Tests.{T-of, of-T}
+use Rattle.paper.proofs.Every.{every-drop, every-take}
 use Rattle.paper.proofs.Accepted.{Follows, follows, file-begins, batch-opens, file-ends, first-individual, its-additional, next-individual, batch-closes}
 use Rattle.state.specs.declared.State.{State}
-use Rattle.field.specs.Places.{recordAt}
 use Rattle.state.specs.declared.Step.{Step}
 use Rattle.state.specs.States.{meant, stops, afterRecord, stepped, Preceded, StandsAfter, Arrived, Ready, Steps}
 use Rattle.reading.specs.Taken.{taken, Comes}
 
 -- ---- characters
-
-module _ (test : ℕ → Bool) where
-  every-drop : (n : ℕ) (l : List ℕ) → T (every test l) → T (every test (drop n l))
-  unfolding every
-  every-drop zero l h = h
-  every-drop (suc n) [] h = h
-  every-drop (suc n) (b ∷ l) h = every-drop n l (and-r (test b) (every test l) h)
-
-  every-take : (n : ℕ) (l : List ℕ) → T (every test l) → T (every test (take n l))
-  unfolding every
-  every-take zero l h = tt
-  every-take (suc n) [] h = h
-  every-take (suc n) (b ∷ l) h = rw (of-T (test b) (and-l (test b) (every test l) h)) (every-take n l (and-r (test b) (every test l) h))
 
 -- where the whole file is good, each record is
 pub clean-record : (file : List ℕ) (place : ℕ) → every good file ≡ true → every good (recordAt file place) ≡ true
@@ -66,7 +52,7 @@ ready {place = place} {st = st} {kind = kind} a told may = record {
 }
 
 -- a step as the reading takes it
-pub comes : {kind : Kind} {rules : Rules} {file : List ℕ} {place : ℕ} {st : State} {r : Step}
+pub comes : {kind : Kind} {rules : ReadingRules} {file : List ℕ} {place : ℕ} {st : State} {r : Step}
     → Steps kind rules file place st r → Comes (stepped rules file place st) file place r
 comes s = record { says = s .says; kept = s .kept }
 
@@ -76,7 +62,7 @@ comes s = record { says = s .says; kept = s .kept }
 abbrev pub first : List ℕ → ℕ → State → Check
 first file place st = need (every good (recordAt file place)) 17 also allowed (st .before) (kindOf (recordAt file place))
 
-module _ (rules : Rules) (file : List ℕ) (place : ℕ) (st : State) where
+module _ (rules : ReadingRules) (file : List ℕ) (place : ℕ) (st : State) where
   pub stands : first file place st ≡ fine → stepped rules file place st ≡ taken rules file place st
   unfolding stepped judged meant _also_
   stands h = rw h

@@ -8,17 +8,16 @@ use lib.Dec.{eqb}
 use lib.ListN.{length, take, drop, drop-of-length-le}
 use Rattle.paper.specs.declared.record.Before.the-variants.{Nothing}
 use Rattle.paper.specs.Fields.{within}
-use Rattle.paper.specs.declared.rules.Rules.{Rules}
 use Rattle.paper.specs.Answers.{Said, refused, andThen, require}
 use Rattle.paper.specs.Checks.{Check, fine, wrong}
 use Rattle.paper.specs.Controls.{zeros}
+use Rattle.paper.specs.Records.{ReadingRules}
 use Rattle.paper.specs.Reading as paper
-use Rattle.paper.specs.Reading.{nothingCounted, start, judged, next, finish, at, readingFrom, parts, recordsOf, lengthGood, reading}
+use Rattle.paper.specs.Reading.{nothingCounted, start, judged, next, finish, at, readingFrom, parts, recordsOf, lengthGood, readingBy, recordAt}
 use Rattle.paper.proofs.Tests.{T-of, within-range, and-l}
 use Rattle.paper.proofs.Places.{parts-from}
 use Rattle.paper.proofs.Lists.{length-parts}
 use Rattle.state.specs.declared.State.{State}
-use Rattle.field.specs.Places.{recordAt}
 use Rattle.state.specs.States.{meant, goes, stops, afterRecord}
 
 -- ---- outcomes
@@ -38,7 +37,7 @@ stopped (wrong m) s {n} h = let e : m ≡ n = cc in ap wrong e
 
 -- ---- records from a place on
 
-module _ (rules : Rules) (file : List ℕ) (n i : ℕ) (s : paper.State) where
+module _ (rules : ReadingRules) (file : List ℕ) (n i : ℕ) (s : paper.State) where
   pub go-on : {t : paper.State} → i < n → afterRecord (judged rules s (recordAt file i)) (next s (recordAt file i)) ≡ goes t
       → readingFrom rules s (drop i (parts 94 n file)) ≡ readingFrom rules t (drop (i + 1) (parts 94 n file))
   unfolding recordAt readingFrom at andThen
@@ -74,7 +73,7 @@ meant-start : (file : List ℕ) → length file ≤ 940000 → meant file 0 noth
 unfolding meant start nothingCounted
 meant-start file h = rw (nowhere file h)
 
-pub at-start : (rules : Rules) (file : List ℕ) (n : ℕ) → length file ≤ 940000
+pub at-start : (rules : ReadingRules) (file : List ℕ) (n : ℕ) → length file ≤ 940000
     → readingFrom rules start (parts 94 n file) ≡ readingFrom rules (meant file 0 nothingRead) (drop 0 (parts 94 n file))
 at-start rules file n h = rw (meant-start file h)
 
@@ -82,11 +81,11 @@ pub short : (n : ℕ) → lengthGood n ≡ true → n ≤ 940000
 unfolding lengthGood
 short n h = within-range 188 940000 n (and-l (within 188 940000 n) (eqb (n % 94) 0) (T-of h)) .1
 
-module _ (rules : Rules) (file : List ℕ) where
-  pub too-long : lengthGood (length file) ≡ false → refused 201 0 ≡ reading rules file
-  unfolding reading andThen require
+module _ (rules : ReadingRules) (file : List ℕ) where
+  pub too-long : lengthGood (length file) ≡ false → refused 201 0 ≡ readingBy rules file
+  unfolding readingBy andThen require
   too-long h = rw h
 
-  pub read-through : {x : Said} → lengthGood (length file) ≡ true → readingFrom rules start (parts 94 (length file / 94) file) ≡ x → x ≡ reading rules file
-  unfolding reading recordsOf andThen require
+  pub read-through : {x : Said} → lengthGood (length file) ≡ true → readingFrom rules start (parts 94 (length file / 94) file) ≡ x → x ≡ readingBy rules file
+  unfolding readingBy recordsOf andThen require
   read-through h e = rw (h, e)

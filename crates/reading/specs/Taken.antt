@@ -2,14 +2,13 @@
 use Prim.Native.Nat.{ℕ, _+_}
 use mathlib.Core.List.{List}
 use mathlib.Core.Path.{_≡_}
-use Rattle.paper.specs.declared.rules.Rules.{Rules}
-use Rattle.paper.specs.Reading.{judged, next}
-use Rattle.field.specs.Places.{recordAt}
+use Rattle.paper.specs.Records.{ReadingRules}
+use Rattle.paper.specs.Reading.{judged, next, recordAt}
 use Rattle.state.specs.declared.State.{State}
 use Rattle.state.specs.declared.Step.{Step}
 use Rattle.state.specs.States.{meant, AfterRecord, afterRecord, stepSays, Kept}
 
-abbrev pub taken : Rules → List ℕ → ℕ → State → AfterRecord
+abbrev pub taken : ReadingRules → List ℕ → ℕ → State → AfterRecord
 taken rules file place st =
     afterRecord (judged rules (meant file place st) (recordAt file place)) (next (meant file place st) (recordAt file place))
 

@@ -4,7 +4,7 @@ ghost use mathlib.Core.Bool.{true};
 ghost use Prim.Native.Nat.{_/_};
 ghost use lib.ListN.{length};
 ghost use Rattle.paper.specs.Fields.{every, good};
-ghost use Rattle.paper.specs.Reading.{finish, lengthGood, reading};
+ghost use Rattle.paper.specs.Reading.{finish, lengthGood, readingBy};
 ghost use Rattle.state.specs.States.{stepped, Arrived, Ready};
 ghost use Rattle.verdicts.specs.Verdicts.{under};
 ghost use Rattle.reading.specs.Said.{readingSays, Carries};
@@ -120,7 +120,7 @@ fn finish(before: Before, records: usize) -> Reading
 }
 
 pub fn read(terms: Terms, roster: &[bool; Rules::ROSTER], file: &[u8]) -> Reading
-    ensures { λ r. ⌜ (readingSays r ≡ reading (under terms (now (roster .entry))) (now (file .entry))) × Carries (length (now (file .entry)) / 94) r ⌝ }
+    ensures { λ r. ⌜ (readingSays r ≡ readingBy (under terms (now (roster .entry))) (now (file .entry))) × Carries (length (now (file .entry)) / 94) r ⌝ }
 {
     if !length_good(file.len()) {
         return Reading::Refused(Fault::Length, 0);

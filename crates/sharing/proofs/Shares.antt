@@ -7,19 +7,23 @@ use mathlib.Core.Logic.{_↔_, inl, inr}
 use mathlib.Core.Path.{_≡_, refl, sym, ap, _∙_}
 use lib.ListN.{length, drop}
 use borrow.Author.Tests.{leb-true, leb-false, le-leb, eq-eqb, eqb-true}
+use Rattle.paper.specs.declared.answer.Answer.{Answer}
+use Rattle.paper.specs.declared.answer.Answer.the-variants.{Accepted}
 use Rattle.paper.specs.declared.answer.Fault.{Fault}
 use Rattle.paper.specs.declared.answer.Output.{Output}
 use Rattle.paper.specs.declared.answer.Output.the-variants as output
 use Rattle.paper.specs.Answers.{numberOf}
 use Rattle.paper.specs.Extract.{Item, isTo, itemsTo, extract}
+use Rattle.paper.specs.Receiving.{receiving}
 use Rattle.paper.specs.Demands.{itemsOf, addressee}
 use Rattle.desk.specs.declared.Session.{Session}
 use Rattle.desk.specs.Standing.{rulesOf}
 use Rattle.desk.specs.Lent.{handed}
-use Rattle.desk.specs.Calls.{Extracts}
+use Rattle.desk.specs.Calls.{Receives, Extracts}
 use Rattle.demands.specs.Extracts.{Extractable, ExtractFaulty}
 use Rattle.demands.proofs.Extracts.{extract-refused, extract-exactly, extract-held, extract-keeps-length, extract-inside}
 use Rattle.demands.proofs.Naming.{extract-named}
+use Rattle.demands.proofs.Receiving.{extract-received}
 use Rattle.sharing.specs.declared.Part.{Part}
 use Rattle.sharing.specs.declared.Part.the-variants.{Nothing, Bytes, Refused}
 use Rattle.sharing.specs.Shares.{holdsTo, Shares}
@@ -114,13 +118,23 @@ module _ (s : Session) (e : ℕ) (file before : List ℕ) (r : Part) (after : Li
     λ x. let y = addressed-exactly e file .0 (x .0) in same y (extract-named s e file before (outputOf r) after (cut y) fault place .1 (x .1)),
   )
 
+  all-handed : {n : ℕ} → r ≡ Bytes n → bytesOf r after ≡ handed (outputOf r) after
+  unfolding bytesOf handed
+  all-handed p = ap (λ (q : Part). bytesOf q after) p ∙ ap (λ (q : Part). handed (outputOf q) after) (sym p)
+
   -- the bytes are the extract, their number is its length, and the rest of the buffer stays
   pub bytes-held : {n : ℕ} → r ≡ Bytes n
       → (bytesOf r after ≡ extract (s .currency) e file) × (n ≡ length (extract (s .currency) e file)) × (drop n after ≡ drop n before)
-  unfolding bytesOf handed
   bytes-held {n} p =
       let x = extract-held s e file before (outputOf r) after (cut (some (output.Accepted n) p)) (ap outputOf p) in
-      (ap (λ (q : Part). bytesOf q after) p ∙ ap (λ (q : Part). handed (outputOf q) after) (sym p) ∙ x .0, x .1, x .2)
+      (all-handed p ∙ x .0, x .1, x .2)
+
+  -- they are received at E's desk, in that session or in one of the same date, currency and roster
+  -- (not so with the whole file for who has one record, or with the next entity's extract)
+  pub bytes-received : {n : ℕ} → r ≡ Bytes n → (t : Session) → rulesOf t ≡ rulesOf s → (a : Answer) → Receives t e (bytesOf r after) a → a ≡ Accepted
+  bytes-received {n} p t same-rules a k =
+      extract-received s e file before (outputOf r) after (cut (some (output.Accepted n) p)) (ap outputOf p) t same-rules a
+      (k ∙ ap (receiving (rulesOf t) e) (all-handed p))
 
   -- nothing, and a refusal, leave the lent buffer as it was
   pub nothing-stays : r ≡ Nothing → after ≡ before

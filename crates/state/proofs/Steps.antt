@@ -6,13 +6,12 @@ use mathlib.Core.Path.{_≡_}
 use native.Mathlib.Omega.{arith}
 use Rattle.paper.specs.declared.record.Kind.{Kind}
 use Rattle.paper.specs.declared.answer.Fault.{Fault}
-use Rattle.paper.specs.declared.rules.Rules.{Rules}
 use Rattle.paper.specs.Answers.{numberOf}
 use Rattle.paper.specs.Checks.{fine, wrong}
+use Rattle.paper.specs.Records.{ReadingRules}
 use Rattle.paper.specs.Reading as paper
-use Rattle.paper.specs.Reading.{fields, beforeNext, lastIndividual, counted, flag}
+use Rattle.paper.specs.Reading.{fields, beforeNext, lastIndividual, counted, flag, recordAt}
 use Rattle.state.specs.declared.State.{State}
-use Rattle.field.specs.Places.{recordAt}
 use Rattle.state.specs.declared.Step.the-variants.{Next, Stop}
 use Rattle.state.specs.States.{meant, stepSays, afterRecord, stepped, Preceded, RoomToCount, Kept, Held, Ready, Steps}
 use Rattle.controls.specs.Bounds.{Below}
@@ -26,7 +25,7 @@ after kind s r = record {
   counts = counted kind (s .counts) r;
 }
 
-module _ {kind : Kind} (rules : Rules) {file : List ℕ} {place : ℕ} {st : State} (ready : Ready kind file place st) where
+module _ {kind : Kind} (rules : ReadingRules) {file : List ℕ} {place : ℕ} {st : State} (ready : Ready kind file place st) where
   -- the record is without fault
   pub goes-on : {next : State} → fields kind rules (meant file place st) (recordAt file place) ≡ fine
       → meant file (place + 1) next ≡ after kind (meant file place st) (recordAt file place)

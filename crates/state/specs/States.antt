@@ -7,12 +7,12 @@ use Rattle.paper.specs.declared.record.Before.{Before}
 use Rattle.paper.specs.declared.record.Before.the-variants.{Nothing, Between, Opened, Flagged, Inside, Ended}
 use Rattle.paper.specs.declared.record.Kind.{Kind}
 use Rattle.paper.specs.declared.record.Kind.the-variants.{FileHeader, BatchHeader, Individual, Additional, BatchControl, FileControl, Other}
-use Rattle.paper.specs.declared.rules.Rules.{Rules}
 use Rattle.paper.specs.Answers.{numberOf}
 use Rattle.paper.specs.Checks.{Check, fine, wrong}
 use Rattle.paper.specs.Kinds.{kindOf}
+use Rattle.paper.specs.Records.{ReadingRules}
 use Rattle.paper.specs.Reading as paper
-use Rattle.field.specs.Places.{recordAt}
+use Rattle.paper.specs.Reading.{recordAt}
 use Rattle.controls.specs.Bounds.{Below}
 use Rattle.state.specs.declared.State.{State}
 use Rattle.state.specs.declared.Step.{Step}
@@ -93,7 +93,7 @@ pub record Ready (kind : Kind) (file : List ℕ) (place : ℕ) (st : State) : Ty
   pub stands : StandsAfter kind place st
 
 -- what the record at a place comes to, where its characters are good and its type may stand there
-unfoldable pub stepped : Rules → List ℕ → ℕ → State → AfterRecord
+unfoldable pub stepped : ReadingRules → List ℕ → ℕ → State → AfterRecord
 stepped rules file place st =
     afterRecord
     (paper.fields (kindOf (recordAt file place)) rules (meant file place st) (recordAt file place))
@@ -123,7 +123,7 @@ Held kind place st (Next after) = (after .header ≡ headerPlace kind place st) 
 Held kind place st (Stop fault) = Unit {0}
 
 -- what a step answers: what it says, what it keeps for the next, and the places that it holds
-pub record Steps (kind : Kind) (rules : Rules) (file : List ℕ) (place : ℕ) (st : State) (r : Step) : Type 0 where
+pub record Steps (kind : Kind) (rules : ReadingRules) (file : List ℕ) (place : ℕ) (st : State) (r : Step) : Type 0 where
   pub says : stepSays file (place + 1) r ≡ stepped rules file place st
   pub kept : Kept (place + 1) r
   pub held : Held kind place st r

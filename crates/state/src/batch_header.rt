@@ -23,7 +23,7 @@ pub fn step(
     ensures { λ r. ⌜ Steps BatchHeader (under terms (now (roster .entry))) (now (file .entry)) place state r ⌝ }
 {
     let rec = record_at(file, place);
-    match batch_header::judge(terms, roster, rec) {
+    match batch_header::judge(terms, roster, state.batches, rec) {
         Verdict::Right => {
             let closed = state.closed;
             Step::Next(State {

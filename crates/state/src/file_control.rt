@@ -1,6 +1,6 @@
 // 9, file control.
-ghost use Rattle.paper.specs.declared.rules.Rules.{Rules};
 ghost use Rattle.paper.specs.declared.record.Kind.the-variants.{FileControl};
+ghost use Rattle.paper.specs.Records.{ReadingRules};
 ghost use Rattle.state.specs.States.{Ready, Steps};
 use crate::State;
 use crate::Step;
@@ -11,7 +11,7 @@ use verdicts::verdict::Verdict;
 
 pub fn step(file: &[u8], place: usize, state: State) -> Step
     requires { ⌜ Ready FileControl (now file) place state ⌝ }
-    ensures { λ r. ⌜ ((rules : Rules) → Steps FileControl rules (now (file .entry)) place state r) ⌝ }
+    ensures { λ r. ⌜ ((rules : ReadingRules) → Steps FileControl rules (now (file .entry)) place state r) ⌝ }
 {
     let rec = record_at(file, place);
     let all = place as u64 + 1;

@@ -8,14 +8,13 @@ use borrow.Rule.Slice.PartMut.{midOf, putMid}
 use lib.ListN.{length, getD, take, drop, length-append, take-append-drop}
 use lib.Seq.{take-suc, take-all, drop-cons}
 use Rattle.paper.specs.Kinds.{kindOf}
-use Rattle.paper.specs.Reading.{recordsOf}
+use Rattle.paper.specs.Reading.{recordsOf, recordAt}
 use Rattle.paper.specs.Writing.{joined}
 use Rattle.paper.specs.Trays.{marked, stripped, strip}
 use Rattle.paper.specs.Buffers.{over}
 use Rattle.paper.proofs.Lists.{joined-append, length-parts}
 use Rattle.paper.proofs.Places.{parts-from}
 use Rattle.paper.proofs.Round.{stripped-append}
-use Rattle.field.specs.Places.{recordAt}
 use Rattle.writing.proofs.Laying.{Wrote, on, again, whole, kept, rest-laid}
 use Rattle.strip.specs.Tray.{onTray}
 

@@ -4,3 +4,4 @@ pub mod Steps
 pub mod NotedWords
 pub mod WrongWords
 pub mod WrongRosters
+pub mod Places

@@ -36,12 +36,12 @@ some (b ∷ bs) = true
 -- this word is being read
 pub record Typing (word : List ℕ) (p : Progress) : Type 0 where
   pub reading : p .word ≡ some word
-  pub so-far : p .number ≡ grownBy 0 word
+  pub so-far : p .number ≡ grownBy 499 0 word
 
-grown-snoc : (n : ℕ) (word : List ℕ) (b : ℕ) → grown (grownBy n word) b ≡ grownBy n (word ++ b ∷ [])
+grown-snoc : (most n : ℕ) (word : List ℕ) (b : ℕ) → grown most (grownBy most n word) b ≡ grownBy most n (word ++ b ∷ [])
 unfolding grownBy
-grown-snoc n [] b = refl
-grown-snoc n (x ∷ word) b = grown-snoc (grown n x) word b
+grown-snoc most n [] b = refl
+grown-snoc most n (x ∷ word) b = grown-snoc most (grown most n x) word b
 
 pub some-snoc : (word : List ℕ) (b : ℕ) → true ≡ some (word ++ b ∷ [])
 unfolding some
@@ -58,14 +58,14 @@ unfolding progressAfter some grownBy
 typing-ended p = record { reading = refl; so-far = refl }
 
 -- one that begins has no byte yet
-number-begun : (word : List ℕ) (p : Progress) → Typing word p → begunIf (p .word) p .number ≡ grownBy 0 word
+number-begun : (word : List ℕ) (p : Progress) → Typing word p → begunIf (p .word) p .number ≡ grownBy 499 0 word
 unfolding begunIf some grownBy
 number-begun [] p t = ap (λ (b : Bool). begunIf b p .number) (t .reading)
 number-begun (x ∷ word) p t = ap (λ (b : Bool). begunIf b p .number) (t .reading) ∙ t .so-far
 
-typing-with : (word : List ℕ) (p : Progress) (b kept : ℕ) → p .number ≡ grownBy 0 word → Typing (word ++ b ∷ []) (progressWith p b kept)
+typing-with : (word : List ℕ) (p : Progress) (b kept : ℕ) → p .number ≡ grownBy 499 0 word → Typing (word ++ b ∷ []) (progressWith p b kept)
 unfolding progressWith
-typing-with word p b kept e = record { reading = some-snoc word b; so-far = ap (λ (n : ℕ). grown n b) e ∙ grown-snoc 0 word b }
+typing-with word p b kept e = record { reading = some-snoc word b; so-far = ap (λ (n : ℕ). grown 499 n b) e ∙ grown-snoc 499 0 word b }
 
 pub typing-on : (wrong : Bool) (word : List ℕ) (r : Roster) (b : ℕ) → Typing word (r .progress) → Typing (word ++ b ∷ []) (grownIf wrong r b .progress)
 unfolding grownIf

@@ -6,7 +6,7 @@ use lib.Dec.{leb, eqb}
 use Rattle.paper.specs.declared.rules.Currency.the-variants.{Pesos, Dollars}
 use Rattle.paper.specs.Fields.{is}
 use Rattle.typed.specs.declared.call.Job.{Job}
-use Rattle.typed.specs.declared.call.Job.the-variants.{Read, Present, Extract, Build, Strip, Share}
+use Rattle.typed.specs.declared.call.Job.the-variants.{Read, Present, Extract, Build, Strip, Share, Receive, Reason, Reasons}
 use Rattle.typed.specs.declared.call.Asked.{Asked}
 use Rattle.typed.specs.declared.call.Asked.the-variants.{To, Nothing}
 
@@ -23,9 +23,17 @@ askedToWrite job currency count =
     (cond (is job "share") (askedIn currency Share (eqb count 10))
     Nothing)))
 
+-- then those of a member's desk, which write none
+unfoldable pub askedOfExtract : List ℕ → List ℕ → ℕ → Asked
+askedOfExtract job currency count =
+    cond (is job "receive") (askedIn currency Receive (eqb count 10))
+    (cond (is job "reason") (askedIn currency Reason (eqb count 12))
+    (cond (is job "reasons") (askedIn currency Reasons (eqb count 11))
+    (askedToWrite job currency count)))
+
 -- all of them; the words of `present` are nine or more
 unfoldable pub askedFor : List ℕ → List ℕ → ℕ → Asked
 askedFor job currency count =
     cond (is job "read") (askedIn currency Read (eqb count 9))
     (cond (is job "present") (askedIn currency Present (leb 9 count))
-    (askedToWrite job currency count))
+    (askedOfExtract job currency count))

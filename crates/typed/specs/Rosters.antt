@@ -99,7 +99,7 @@ unfoldable pub keptWith : Progress → ℕ
 keptWith p = cond (ltb (p .kept) 64) (p .kept + 1) (p .kept)
 
 unfoldable pub progressWith : Progress → ℕ → ℕ → Progress
-progressWith p b kept = record { word = true; number = grown (p .number) b; place = p .place; kept = kept }
+progressWith p b kept = record { word = true; number = grown 499 (p .number) b; place = p .place; kept = kept }
 
 -- a byte of a word; from the first wrong word on no place is counted, and no byte kept
 unfoldable pub grownIf : Bool → Roster → ℕ → Roster

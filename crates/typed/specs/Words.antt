@@ -10,13 +10,19 @@ use Rattle.paper.specs.Fields.{digit, number}
 unfoldable pub dateTyped : List ℕ → ℕ
 dateTyped word = cond (eqb (length word) 6) (number word) 0
 
--- an entity is the number that a word's digits spell, as far as it can be an entity's: 500 stands for every number beyond, and for what is no digit
-unfoldable pub grown : ℕ → ℕ → ℕ
-grown n b = cond (digit b && leb n 499) (n * 10 + (b - 48)) 500
+-- a number is what a word's digits spell, as far as the most that is asked for: one more stands for every number beyond, and for what is no digit
+unfoldable pub grown : ℕ → ℕ → ℕ → ℕ
+grown most n b = cond (digit b && leb n most) (n * 10 + (b - 48)) (most + 1)
 
-unfoldable pub grownBy : ℕ → List ℕ → ℕ
-grownBy n [] = n
-grownBy n (b ∷ bs) = grownBy (grown n b) bs
+unfoldable pub grownBy : ℕ → ℕ → List ℕ → ℕ
+grownBy most n [] = n
+grownBy most n (b ∷ bs) = grownBy most (grown most n b) bs
 
+-- an entity's
 unfoldable pub entityTyped : List ℕ → ℕ
-entityTyped word = grownBy 0 word
+entityTyped word = grownBy 499 0 word
+
+-- the place of a record: 10,000 is past the end of every file, and stands for what is no number
+unfoldable pub placeTyped : List ℕ → ℕ
+placeTyped [] = 10000
+placeTyped (b ∷ bs) = grownBy 9999 0 (b ∷ bs)

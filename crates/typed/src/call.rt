@@ -1,6 +1,6 @@
 // What the words of a call ask for.
 ghost use mathlib.Core.Path.{_≡_};
-ghost use Rattle.typed.specs.Asking.{askedIn, askedToWrite, askedFor};
+ghost use Rattle.typed.specs.Asking.{askedIn, askedToWrite, askedOfExtract, askedFor};
 use crate::words;
 use paper::rules::Currency;
 
@@ -11,6 +11,9 @@ pub enum Job {
     Build,
     Strip,
     Share,
+    Receive,
+    Reason,
+    Reasons,
 }
 
 // A job to be done in a currency; or nothing that there is.
@@ -37,12 +40,14 @@ impl Word {
     pub const CURRENCY: usize = 6;
 
     pub const ROSTER: usize = 7;
-    // FILE, or FILE.., or FILE OUT, or FILE FOLDER; or ENTITY FILE OUT, or HEADER TRAY OUT
+    // FILE, or FILE.., or FILE OUT, or FILE FOLDER; or ENTITY FILE OUT, or HEADER TRAY OUT; or ENTITY EXTRACT, with MOTIVES, with MOTIVES RECORD
     pub const FIRST: usize = 8;
 
     pub const SECOND: usize = 9;
 
     pub const THIRD: usize = 10;
+
+    pub const FOURTH: usize = 11;
 }
 
 // The job, where so many words are its, in the currency that the word names.
@@ -80,6 +85,22 @@ fn asked_to_write(job: &[u8], currency: &[u8], count: usize) -> Asked
     Asked::Nothing
 }
 
+// The jobs of a member's desk, on an extract; or another.
+fn asked_of_extract(job: &[u8], currency: &[u8], count: usize) -> Asked
+    ensures { λ r. ⌜ r ≡ askedOfExtract (now (job .entry)) (now (currency .entry)) count ⌝ }
+{
+    if words::is(job, b"receive") {
+        return asked_in(currency, Job::Receive, count == Word::SECOND + 1);
+    }
+    if words::is(job, b"reason") {
+        return asked_in(currency, Job::Reason, count == Word::FOURTH + 1);
+    }
+    if words::is(job, b"reasons") {
+        return asked_in(currency, Job::Reasons, count == Word::THIRD + 1);
+    }
+    asked_to_write(job, currency, count)
+}
+
 // What the words for the job and the currency ask for, in a call of so many words.
 pub fn asked_for(job: &[u8], currency: &[u8], count: usize) -> Asked
     ensures { λ r. ⌜ r ≡ askedFor (now (job .entry)) (now (currency .entry)) count ⌝ }
@@ -90,5 +111,5 @@ pub fn asked_for(job: &[u8], currency: &[u8], count: usize) -> Asked
     if words::is(job, b"present") {
         return asked_in(currency, Job::Present, count > Word::FIRST);
     }
-    asked_to_write(job, currency, count)
+    asked_of_extract(job, currency, count)
 }

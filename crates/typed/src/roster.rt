@@ -122,7 +122,7 @@ impl Progress {
     {
         Progress {
             word: true,
-            number: words::grown(self.number, b),
+            number: words::grown(Session::LAST, self.number, b),
             place: self.place,
             kept,
         }

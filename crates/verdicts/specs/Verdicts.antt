@@ -1,10 +1,10 @@
--- What a verdict of the code says in the paper's numbers, and the rules that a session's date, currency and roster are.
+-- What a verdict of the code says in the paper's numbers, and the rules that a reading goes by.
 use mathlib.Core.Bool.{Bool}
 use mathlib.Core.List.{List}
-use Rattle.paper.specs.declared.rules.Rules.{Rules}
 use Rattle.paper.specs.declared.rules.Terms.{Terms}
 use Rattle.paper.specs.Answers.{numberOf}
 use Rattle.paper.specs.Checks.{Check, fine, wrong}
+use Rattle.paper.specs.Records.{ReadingRules}
 use Rattle.verdicts.specs.declared.verdict.Verdict.{Verdict}
 use Rattle.verdicts.specs.declared.verdict.Verdict.the-variants.{Right, Wrong}
 
@@ -12,5 +12,5 @@ unfoldable pub checkOf : Verdict → Check
 checkOf Right = fine
 checkOf (Wrong fault) = wrong (numberOf fault)
 
-abbrev pub under : Terms → List Bool → Rules
-under terms roster = record { date = terms .date; currency = terms .currency; roster = roster }
+abbrev pub under : Terms → List Bool → ReadingRules
+under terms roster = record { session = record { date = terms .date; currency = terms .currency; roster = roster }; reader = terms .reader }

@@ -1,21 +1,20 @@
 -- Numbers in as many digits as they need: how many these are, and that they spell the number.
 use Prim.Native.Nat.{ℕ, zero, suc, _+_, _-_, _≤_, _<_, _/_, _%_, _^_}
-use mathlib.Core.Bool.{Bool, true, false, _&&_, cond}
+use mathlib.Core.Bool.{Bool, true, false, cond}
 use mathlib.Core.List.{List, [], _∷_, _++_}
 use mathlib.Core.Path.{_≡_, refl, _∙_}
-use native.Mathlib.Nat.{pow-zero, pow-suc, mod-one, mod-eq-of-lt}
+use native.Mathlib.Nat.{pow-zero, pow-suc, mod-eq-of-lt}
 use native.Mathlib.Omega.{arith}
-use lib.Arith.{mod-mul}
 use lib.Dec.{T, ltb}
 use lib.IntN.{ℤ, pos, negsuc, natAbs}
 use lib.Signed.{ltZ}
 use lib.ListN.{length, getD, length-append, List·getD-append}
-use borrow.Author.Tests.{lt-ltb, le-ltb, ltb-false, ltb-true, le-leb}
-use Rattle.paper.specs.Fields.{bytes, every, digit, digits, value, valueFrom}
+use borrow.Author.Tests.{lt-ltb, le-ltb, ltb-false, ltb-true}
+use Rattle.paper.specs.Fields.{bytes, digit, digits, value}
 use Rattle.paper.specs.Writing.{spelled}
 use Rattle.paper.specs.Listing.{widthBy, width, decimal, signedDecimal}
 use Rattle.paper.proofs.Lists.{length-spelled}
-use Rattle.paper.proofs.Digits.{ten-pos, valueFrom-snoc}
+use Rattle.paper.proofs.Spelling.{digits-spelled, value-spelled}
 
 -- ---- how many digits
 
@@ -99,36 +98,10 @@ decimal-most n = omega (arith, length-decimal n, widthBy-all 19 n)
 
 -- ---- what they spell
 
--- so many digits spell the number but for what is above them
-value-spelled : (w n : ℕ) → value (spelled w n) ≡ n % 10 ^ w
-unfolding spelled valueFrom
-value-spelled zero n = rw (pow-zero, mod-one)
-value-spelled (suc w) n =
-    let e : 48 + n % 10 - 48 ≡ n % 10 = omega arith in
-    rw (valueFrom-snoc 0 (spelled w (n / 10)) (48 + n % 10), value-spelled w (n / 10), e, pow-suc, mod-mul n {m = 10 ^ w} {c = 10} (ten-pos w) (omega arith))
-
 -- what is printed is the number
 pub value-decimal : (n : ℕ) → n < 10 ^ 20 → value (decimal n) ≡ n
 unfolding decimal
 value-decimal n h = value-spelled (width n) n ∙ mod-eq-of-lt (width-enough n h)
-
-every-both : (p : ℕ → Bool) (a b : List ℕ) → T (every p a) → T (every p b) → T (every p (a ++ b))
-unfolding every
-every-both p [] b s t = t
-every-both p (x ∷ a) b s t = go (p x) s (λ r. every-both p a b r t)
-  where
-    go : (c : Bool) → T (c && every p a) → (T (every p a) → T (every p (a ++ b))) → T (c && every p (a ++ b))
-    go true s r = r s
-    go false s r = s
-
-digits-spelled : (w n : ℕ) → T (digits (spelled w n))
-unfolding spelled every digit
-digits-spelled zero n = tt
-digits-spelled (suc w) n =
-    every-both digit (spelled w (n / 10)) ((48 + n % 10) ∷ []) (digits-spelled w (n / 10)) (last (48 + n % 10) (omega arith) (omega arith))
-  where
-    last : (d : ℕ) → 48 ≤ d → d ≤ 57 → T (every digit (d ∷ []))
-    last d h k = rw (le-leb 48 d h, le-leb d 57 k) tt
 
 -- all are digits
 pub digits-decimal : (n : ℕ) → T (digits (decimal n))

@@ -2,7 +2,7 @@
 
 use super::draft::{put_number, Draft};
 use super::entities::{any_currency, entity_field, relation, roster_with};
-use super::good::{any_date, Amounts, Maker, MODEST};
+use super::good::{any_date, Amounts, Maker, CODES, MODEST};
 use super::random::Random;
 use crate::{Currency, Rules};
 
@@ -11,6 +11,9 @@ pub struct Addressed {
     pub draft: Draft,
     pub entity: usize,
 }
+
+/// Code and information of the individual records that have a reason.
+const REJECTIONS: [(&[u8; 2], &[u8; 2]); 3] = [CODES[2], CODES[3], CODES[5]];
 
 /// How many of the individual records go to the entity.
 #[derive(Clone, Copy, Debug)]
@@ -119,6 +122,13 @@ impl<'r, 'm> Sender<'r, 'm> {
         self.maker.individual_of(code, b"00", true);
     }
 
+    /// One rejection to the entity, of a debit or of a reversal.
+    fn reject(&mut self) {
+        self.aim(true);
+        let (code, information) = *self.maker.random.pick(&REJECTIONS);
+        self.maker.individual_of(code, information, true);
+    }
+
     fn finish(self) -> Addressed {
         Addressed {
             draft: self.maker.finish(),
@@ -157,6 +167,30 @@ fn add_batch(sender: &mut Sender, holds: bool) {
         sender.send(to_entity);
     }
     sender.maker.batch_control();
+}
+
+/// Batches of which each holds a rejection to the entity, among other records.
+pub fn rejected_file(random: &mut Random) -> Addressed {
+    let members = Members::any(random);
+    let most = *random.pick(&[1, 2, 4, 12, 30]);
+    let batches = random.between(1, most);
+    let mut sender = Sender::new(random, &members);
+    sender.maker.begin();
+    for _ in 0..batches {
+        sender.maker.batch_header();
+        let records = sender.maker.random.between(1, 4);
+        let sure = sender.maker.random.below(records);
+        for record in 0..records {
+            if record == sure || sender.maker.random.once_in(4) {
+                sender.reject();
+            } else {
+                let to_entity = sender.maker.random.once_in(2);
+                sender.send(to_entity);
+            }
+        }
+        sender.maker.batch_control();
+    }
+    sender.finish()
 }
 
 /// Header and control, and nobody addressed.

@@ -3,6 +3,7 @@
 use super::case::{refused, Answer};
 use super::damage::put_fault;
 use super::draft::Draft;
+use super::faults::Kind;
 use super::random::{Random, CHARACTERS};
 use super::structure::disorder;
 
@@ -12,7 +13,7 @@ pub fn damaged_copy(random: &mut Random, good: &Draft) -> (&'static str, Vec<u8>
         let mut draft = good.clone();
         let with_batches = draft.records.len() > 2;
         let (kind, answer) = match random.below(8) {
-            0..=3 if with_batches => ("fault", put_fault(random, &mut draft)),
+            0..=3 if with_batches => ("fault", put_fault(random, &mut draft, &Kind::ALL)),
             0..=5 => disorder(random, &mut draft),
             6 => return flipped_copy(random, good),
             _ => {

@@ -2,7 +2,7 @@
 
 use super::case::{refused, Answer, Case};
 use super::draft::{get_number, put, put_number, Draft};
-use super::entities::{field_number, named_in};
+use super::entities::{field_number, named_in, relation};
 use super::faults::{Check, Kind, Way, NO_DATES};
 use super::good::{any_date, file_with_batches, CODES};
 use super::random::{Random, CHARACTERS};
@@ -42,21 +42,30 @@ impl Fault {
         // Code, information and flag are judged together.
         let entwined = |check: &Check| matches!(check.from, 2 | 77 | 79);
         let overlap = mine.from <= its.to && its.from <= mine.to;
-        overlap || (self.kind == Kind::Individual && entwined(mine) && entwined(its))
+        let individual = matches!(self.kind, Kind::Individual | Kind::HandedIndividual);
+        overlap || (individual && entwined(mine) && entwined(its))
     }
 }
 
 pub fn one_fault(random: &mut Random) -> Case {
     let mut draft = file_with_batches(random);
-    let refusal = put_fault(random, &mut draft);
+    let refusal = put_fault(random, &mut draft, &Kind::ALL);
     Case::of("one fault", &draft, refusal)
 }
 
-/// One fault in a draft with at least one batch; its rules may change with it.
-pub fn put_fault(random: &mut Random, draft: &mut Draft) -> Answer {
-    let fault = any_fault(random, draft);
+/// One fault of these kinds in a draft with at least one batch; its rules may change with it.
+pub fn put_fault(random: &mut Random, draft: &mut Draft, kinds: &[Kind]) -> Answer {
+    let fault = any_fault(random, draft, kinds);
     apply_all(random, draft, &[fault]);
     drop_unflagged_additional(random, draft, fault.place);
+    fault.refusal()
+}
+
+/// One fault in a record of this kind, all rows alike.
+pub fn put_fault_of(random: &mut Random, draft: &mut Draft, kind: Kind) -> Answer {
+    let rank = random.below(kind.checks().len());
+    let fault = Fault::somewhere(random, draft, kind, rank);
+    apply_all(random, draft, &[fault]);
     fault.refusal()
 }
 
@@ -90,8 +99,13 @@ fn any_body_fault(random: &mut Random, draft: &Draft, kinds: &[Kind]) -> Fault {
 }
 
 pub fn two_faults_in_one_record(random: &mut Random) -> Case {
-    let mut draft = file_with_batches(random);
-    let first = any_fault(random, &draft);
+    let draft = file_with_batches(random);
+    two_in_one_record(random, draft, &Kind::ALL)
+}
+
+/// In a draft with at least one batch, of these kinds.
+pub fn two_in_one_record(random: &mut Random, mut draft: Draft, kinds: &[Kind]) -> Case {
+    let first = any_fault(random, &draft, kinds);
     let rank = random.below(first.kind.checks().len());
     let way = *random.pick(first.kind.checks()[rank].ways);
     let second = Fault { rank, way, ..first };
@@ -114,9 +128,14 @@ pub fn two_faults_in_one_record(random: &mut Random) -> Case {
 }
 
 pub fn two_faults_in_two_records(random: &mut Random) -> Case {
-    let mut draft = file_with_batches(random);
-    let first = any_fault(random, &draft);
-    let second = any_fault(random, &draft);
+    let draft = file_with_batches(random);
+    two_in_two_records(random, draft, &Kind::ALL)
+}
+
+/// As `two_in_one_record`.
+pub fn two_in_two_records(random: &mut Random, mut draft: Draft, kinds: &[Kind]) -> Case {
+    let first = any_fault(random, &draft, kinds);
+    let second = any_fault(random, &draft, kinds);
     apply_all(random, &mut draft, &[first, second]);
     let expected = match first.place.cmp(&second.place) {
         std::cmp::Ordering::Less => first.refusal(),
@@ -127,11 +146,11 @@ pub fn two_faults_in_two_records(random: &mut Random) -> Case {
 }
 
 /// All rows alike half of the time, otherwise all numbers alike.
-fn any_fault(random: &mut Random, draft: &Draft) -> Fault {
+fn any_fault(random: &mut Random, draft: &Draft, kinds: &[Kind]) -> Fault {
     const NUMBERS: [u16; 11] = [17, 19, 25, 27, 75, 77, 78, 79, 87, 203, 204];
     let number = random.once_in(2).then(|| *random.pick(&NUMBERS));
     loop {
-        let kind = *random.pick(&Kind::ALL);
+        let kind = *random.pick(kinds);
         let rank = random.below(kind.checks().len());
         let wanted = number.is_none_or(|number| number == kind.checks()[rank].number);
         // A file without additionals cannot have all faults: then another is drawn.
@@ -174,6 +193,11 @@ fn apply(random: &mut Random, draft: &mut Draft, fault: &Fault) {
         Way::Absent => name_absent(random, draft, fault.place, from),
         Way::OtherAbsent => {
             name_absent(random, draft, fault.place, from);
+            turn_currency(draft, fault.place, from);
+        }
+        Way::Foreign => name_foreign(random, draft, fault.place, from),
+        Way::OtherForeign => {
+            name_foreign(random, draft, fault.place, from);
             turn_currency(draft, fault.place, from);
         }
         Way::OtherDate | Way::SharedNoDate => change_date(random, draft, fault),
@@ -248,6 +272,15 @@ fn name_absent(random: &mut Random, draft: &mut Draft, place: usize, from: usize
     draft.rules.roster[absent] = false;
     let number = field_number(draft.rules.currency, absent as u64);
     put_number(&mut draft.records[place], from, from + 3, number);
+}
+
+/// Somebody whose number is near, or anybody; the roster stays.
+fn name_foreign(random: &mut Random, draft: &mut Draft, place: usize, from: usize) {
+    let record = &mut draft.records[place];
+    let entity = get_number(record, from, from + 3) as usize % 500;
+    let foreign = relation(random, entity.max(1));
+    let number = field_number(draft.rules.currency, foreign as u64);
+    put_number(record, from, from + 3, number);
 }
 
 /// The first place of a record that names the entity, in whichever currency.
@@ -331,35 +364,66 @@ fn round_blocks_down(draft: &mut Draft, place: usize) {
 #[cfg(test)]
 mod tests {
     use super::*;
-    use crate::read;
+    use crate::generate::handed::{handed_with_reasons, Handed};
+    use crate::{read, receive, Refusal};
 
-    /// Each way of each check of each kind, at every record of that kind.
+    /// How a file is made, and how it is read.
+    struct Reading {
+        make: fn(&mut Random) -> Handed,
+        read: fn(&Handed) -> Result<usize, Refusal>,
+    }
+
     #[test]
     fn each_fault_of_the_table_gets_its_number() {
+        let house = Reading {
+            make: |random| Handed {
+                draft: file_with_batches(random),
+                entity: 0,
+            },
+            read: |file| read(&file.draft.rules, &file.draft.bytes()),
+        };
+        try_all(&Kind::ALL, &house);
+    }
+
+    #[test]
+    fn each_fault_of_an_extract_gets_its_number() {
+        let desk = Reading {
+            make: handed_with_reasons,
+            read: |file| {
+                let draft = &file.draft;
+                receive(&draft.rules, file.entity as u64, &draft.bytes())
+            },
+        };
+        try_all(&Kind::HANDED, &desk);
+    }
+
+    /// Each way of each check of each kind, at every record of that kind.
+    fn try_all(kinds: &[Kind], reading: &Reading) {
         let mut random = Random::new(1, 1);
-        for kind in Kind::ALL {
+        for &kind in kinds {
             for (rank, check) in kind.checks().iter().enumerate() {
                 for &way in check.ways {
                     for _ in 0..40 {
-                        try_everywhere(&mut random, kind, rank, way);
+                        try_everywhere(&mut random, reading, (kind, rank), way);
                     }
                 }
             }
         }
     }
 
-    fn try_everywhere(random: &mut Random, kind: Kind, rank: usize, way: Way) {
-        let good = file_with_batches(random);
-        for place in good.places(|record| kind.is(record)) {
+    fn try_everywhere(random: &mut Random, reading: &Reading, row: (Kind, usize), way: Way) {
+        let (kind, rank) = row;
+        let good = (reading.make)(random);
+        for place in good.draft.places(|record| kind.is(record)) {
             let fault = Fault {
                 kind,
                 rank,
                 way,
                 place,
             };
-            let mut draft = good.clone();
-            apply_all(random, &mut draft, &[fault]);
-            let answer = Some(read(&draft.rules, &draft.bytes()));
+            let mut file = good.clone();
+            apply_all(random, &mut file.draft, &[fault]);
+            let answer = Some((reading.read)(&file));
             assert_eq!(answer, fault.refusal(), "{kind:?}, check {rank}, {way:?}");
         }
     }

@@ -4,9 +4,9 @@ use super::addressed::{
     addressed_file, empty_file, fill_free_positions, largest_sums, largest_totals,
     renumber_batches, shared_file, Addressed, Share, ALL, ONE, SEVERAL,
 };
+use super::asked::{any_of, named, no_entity, on_roster};
 use super::case::{refused, Answer, Case};
 use super::copies::damaged_copy;
-use super::entities::named_in;
 use super::files::{any_generated, generate};
 use super::large;
 use super::lending::{written_after, Input, Lending};
@@ -142,55 +142,6 @@ fn any_entity(random: &mut Random, source: &Source, rules: &Rules) -> u64 {
         17 => on_roster(random, rules, false),
         _ => no_entity(random, someone),
     }
-}
-
-/// Numbers of nobody, some of which look like one's when cut.
-fn no_entity(random: &mut Random, someone: u64) -> u64 {
-    *random.pick(&[
-        0,
-        0,
-        500,
-        500,
-        501,
-        999,
-        1_000,
-        someone + 500,
-        someone + 512,
-        someone + 1_000,
-        someone + (1 << 16),
-        someone + (1 << 32),
-        someone + (1 << 63),
-        someone * 10_000,
-        u64::MAX,
-        u64::MAX - someone,
-    ])
-}
-
-/// The entities that all records of this type name.
-fn named(file: &[u8], kind: u8) -> Vec<u64> {
-    let records = file.chunks_exact(RECORD);
-    records
-        .filter(|record| record[0] == kind)
-        .filter_map(named_in)
-        .map(|named| named as u64 % 500)
-        .filter(|&entity| entity > 0)
-        .collect()
-}
-
-fn any_of(random: &mut Random, entities: &[u64]) -> u64 {
-    if entities.is_empty() {
-        random.between(1, 499) as u64
-    } else {
-        *random.pick(entities)
-    }
-}
-
-/// Someone on the roster or not on it, where there is one.
-fn on_roster(random: &mut Random, rules: &Rules, listed: bool) -> u64 {
-    let wanted: Vec<u64> = (1..500)
-        .filter(|&entity| rules.roster[entity as usize] == listed)
-        .collect();
-    any_of(random, &wanted)
 }
 
 impl Input for Extraction {

@@ -14,6 +14,10 @@ pub enum Kind {
     Concept,
     BatchControl,
     FileControl,
+    /// The next three as a desk receives them.
+    HandedFileHeader,
+    HandedBatchHeader,
+    HandedIndividual,
 }
 
 impl Kind {
@@ -35,11 +39,22 @@ impl Kind {
         Kind::Concept,
     ];
 
+    /// Those of an extract.
+    pub const HANDED: [Kind; 7] = [
+        Kind::HandedFileHeader,
+        Kind::HandedBatchHeader,
+        Kind::HandedIndividual,
+        Kind::Motive,
+        Kind::Concept,
+        Kind::BatchControl,
+        Kind::FileControl,
+    ];
+
     pub fn is(self, record: &Record) -> bool {
         match self {
-            Kind::FileHeader => record[0] == b'1',
-            Kind::BatchHeader => record[0] == b'5',
-            Kind::Individual => record[0] == b'6',
+            Kind::FileHeader | Kind::HandedFileHeader => record[0] == b'1',
+            Kind::BatchHeader | Kind::HandedBatchHeader => record[0] == b'5',
+            Kind::Individual | Kind::HandedIndividual => record[0] == b'6',
             Kind::Motive => record.starts_with(b"799"),
             Kind::Concept => record.starts_with(b"705"),
             Kind::BatchControl => record[0] == b'8',
@@ -61,6 +76,9 @@ impl Kind {
             Kind::Concept => CONCEPT,
             Kind::BatchControl => BATCH_CONTROL,
             Kind::FileControl => FILE_CONTROL,
+            Kind::HandedFileHeader => HANDED_FILE_HEADER,
+            Kind::HandedBatchHeader => HANDED_BATCH_HEADER,
+            Kind::HandedIndividual => HANDED_INDIVIDUAL,
         }
     }
 }
@@ -99,6 +117,10 @@ pub enum Way {
     Absent,
     /// Both at once: the currency is judged first.
     OtherAbsent,
+    /// The entity field names somebody else than it did, on the roster or not.
+    Foreign,
+    /// Both at once: somebody else, and in the other currency.
+    OtherForeign,
     /// A good date, but not the session's.
     OtherDate,
     /// No date at all, and the session holds the same number.
@@ -138,6 +160,9 @@ const NO_ENTITY: &[Way] = &[
         b"0000", b"0500", b"1000", b"9999", b"1001", b"1499", b"5001", b"0000", b"0500",
     ]),
 ];
+const NOBODY: Way = Texts(&[b"0000", b"0500", b"1000", b"9999"]);
+/// No batch of a file comes this late, or before the first.
+const NO_NUMBER: Way = Texts(&[b"0000000", b"1000000", b"9999999"]);
 const NO_DATE: &[Way] = &[NotDigit, OneBlank, Blanks, Texts(NO_DATES)];
 pub const NO_DATES: &[&[u8]] = &[
     b"230229", b"010229", b"990229", b"000230", b"240230", b"000431", b"990631", b"120931",
@@ -267,4 +292,59 @@ const FILE_CONTROL: &[Check] = &[
     check(17, 22, 31, SUM),
     check(17, 32, 43, SUM),
     check(17, 44, 55, SUM),
+];
+
+/// Another desk's header is judged last, in whichever currency, and whether it is anybody's at all.
+const HANDED_FILE_HEADER: &[Check] = &[
+    CHARACTERS,
+    check(17, 2, 3, &[Other, NOT_01]),
+    check(17, 4, 4, &[Other]),
+    check(17, 5, 12, NO_DIGITS),
+    check(17, 13, 13, &[Other]),
+    check(17, 14, 14, &[Other]),
+    check(17, 15, 22, NO_DIGITS),
+    check(17, 23, 23, &[Other]),
+    check(75, 24, 29, NO_DATE),
+    check(75, 24, 29, &[OtherDate, SharedNoDate]),
+    check(17, 30, 33, &[NO_TIME]),
+    check(17, 34, 34, &[NO_IDENTIFIER]),
+    check(17, 35, 40, &[Other, NOT_094101]),
+    check(17, 5, 8, &[Foreign, Foreign, Absent, OtherForeign]),
+    check(17, 5, 8, &[OtherCurrency, OtherDigit, NOBODY]),
+    check(17, 9, 12, &[OtherDigit, OneMore]),
+];
+
+const HANDED_BATCH_HEADER: &[Check] = &[
+    CHARACTERS,
+    check(17, 2, 4, NO_DIGITS),
+    check(17, 5, 20, &[Blanks]),
+    check(17, 41, 50, NO_DIGITS),
+    check(17, 54, 63, &[Blanks]),
+    check(75, 70, 75, NO_DATE),
+    check(17, 79, 79, &[NotDigit, OneBlank]),
+    check(17, 80, 87, NO_ENTITY),
+    check(203, 80, 87, &[OtherCurrency, OtherAbsent]),
+    check(204, 80, 87, &[Absent]),
+    check(17, 88, 94, NO_DIGITS),
+    check(17, 88, 94, &[OneMore, OneLess, OtherDigit, NO_NUMBER]),
+];
+
+/// A foreign destination takes the place of one that is not on the roster.
+const HANDED_INDIVIDUAL: &[Check] = &[
+    CHARACTERS,
+    check(17, 2, 3, &[NO_CODE]),
+    check(17, 4, 11, NO_ENTITY),
+    check(203, 4, 11, &[OtherCurrency, OtherForeign, OtherAbsent]),
+    check(17, 4, 11, &[Foreign, Foreign, Absent]),
+    check(77, 12, 12, &[Other, OneBlank]),
+    check(78, 13, 29, NO_DIGITS),
+    check(19, 30, 39, &[NotDigit, OneBlank, Blanks, NO_AMOUNT]),
+    check(79, 40, 54, &[Blanks]),
+    check(17, 55, 76, &[Blanks]),
+    check(87, 77, 78, &[NO_INFORMATION, WrongInformation]),
+    check(17, 79, 79, &[NO_FLAG]),
+    check(25, 79, 79, &[FlagMissing]),
+    check(17, 80, 94, NO_DIGITS),
+    check(27, 80, 87, &[OtherDigit]),
+    check(27, 88, 94, &[CounterEqual, CounterFalling, CounterZero]),
 ];

@@ -9,6 +9,11 @@ use crate::reading::RECORD;
 
 pub fn damaged_length(random: &mut Random) -> Case {
     let draft = any_file(random);
+    damaged_length_of(random, &draft)
+}
+
+/// Of a draft that is good.
+pub fn damaged_length_of(random: &mut Random, draft: &Draft) -> Case {
     let mut file = draft.bytes();
     let whole = file.len();
     let mut expected = None;
@@ -41,7 +46,7 @@ pub fn damaged_length(random: &mut Random) -> Case {
     } else {
         refused(201, 0)
     };
-    Case::with("length", draft.rules, file, expected)
+    Case::with("length", draft.rules.clone(), file, expected)
 }
 
 fn is_length(length: usize) -> bool {
@@ -55,17 +60,21 @@ pub fn flipped(random: &mut Random, run: usize, value: u8) -> Case {
         run / Kind::ALL.len() % RECORD,
     );
     let (draft, places) = file_holding(random, kind);
-    let at = *random.pick(&places) * RECORD + position;
+    flip(&draft, *random.pick(&places) * RECORD + position, value)
+}
+
+/// This byte of a good draft becomes this value.
+pub fn flip(draft: &Draft, at: usize, value: u8) -> Case {
     let mut file = draft.bytes();
     let expected: Answer = if file[at] == value {
-        accepted(&draft)
+        accepted(draft)
     } else if !CHARACTERS.contains(&value) {
         refused(17, at / RECORD)
     } else {
         None
     };
     file[at] = value;
-    Case::with("byte flipped", draft.rules, file, expected)
+    Case::with("byte flipped", draft.rules.clone(), file, expected)
 }
 
 /// A good file with records of this kind, and their places.

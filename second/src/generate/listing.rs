@@ -4,7 +4,7 @@ use super::case::{accepted, refused, Answer};
 use super::damage::put_fault;
 use super::draft::{get_number, put, Draft};
 use super::entities::{any_currency, entity_field, some_entities};
-use super::faults::NO_DATES;
+use super::faults::{Kind, NO_DATES};
 use super::good::{any_date, long_file, small_file, Amounts, Maker};
 use super::opening::shuffle;
 use super::random::{Random, LISTINGS};
@@ -165,7 +165,7 @@ fn damaged(random: &mut Random, rules: &Rules) -> ListingCase {
         let mut draft = sound.clone();
         let meant = match random.below(3) {
             0 => disorder(random, &mut draft).1,
-            _ => put_fault(random, &mut draft),
+            _ => put_fault(random, &mut draft, &Kind::ALL),
         };
         // Everybody is on this roster, so that nobody can be struck from it.
         if draft.rules.roster == rules.roster {

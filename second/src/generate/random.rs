@@ -11,6 +11,8 @@ pub const LISTINGS: u64 = 1 << 61;
 pub const EXTRACTS: u64 = 1 << 60;
 pub const TRAYS: u64 = 1 << 59;
 pub const STRIPS: u64 = 1 << 58;
+pub const RECEIVED: u64 = 1 << 57;
+pub const SHOWN: u64 = 1 << 56;
 
 /// The 57 good characters.
 pub const CHARACTERS: &[u8; 57] = b" !#$%()*+,-./0123456789:;<=>?@ABCDEFGHIJKLMNOPQRSTUVWXYZ_";

@@ -2,9 +2,10 @@
 
 use super::case::{accepted, refused, Answer, Case};
 use super::damage::first_use;
-use super::draft::{put_number, Draft};
-use super::entities;
+use super::draft::{put_number, Draft, Record};
+use super::entities::{self, named_in};
 use super::good::{any_date, any_file};
+use super::handed::Handed;
 use super::random::Random;
 
 pub fn damaged_rules(random: &mut Random) -> Case {
@@ -24,7 +25,62 @@ pub fn damaged_rules(random: &mut Random) -> Case {
     Case::of(family, &draft, expected)
 }
 
-fn another_date(random: &mut Random, draft: &mut Draft) -> Answer {
+/// The same for an extract, of which the desk and the senders must be on the roster; without the desk it is 208.
+pub fn damaged_rules_at_desk(random: &mut Random, handed: &mut Handed) -> (&'static str, Answer) {
+    let draft = &mut handed.draft;
+    match random.below(7) {
+        0 => ("another date", another_date(random, draft)),
+        1 => ("rules of no date", no_date(random, draft)),
+        2 => ("date of too many digits", too_many_digits(random, draft)),
+        3 => {
+            // The desk's own header is another's then, and there is no 203.
+            other_currency(draft);
+            ("other currency", refused(17, 0))
+        }
+        4 => ("empty roster", empty_roster(draft)),
+        5 => ("roster of those in use", roster_of_desk(handed)),
+        _ => ("entity struck", strike_at_desk(random, handed)),
+    }
+}
+
+/// What a batch's sender is called, of whichever currency.
+fn sender_of(record: &Record) -> Option<usize> {
+    let named = named_in(record).filter(|_| record[0] == b'5');
+    named.map(|number| number % 500)
+}
+
+fn roster_of_desk(handed: &mut Handed) -> Answer {
+    let records = &handed.draft.records;
+    let mut roster = [false; 500];
+    roster[handed.entity] = true;
+    for sender in records.iter().filter_map(sender_of) {
+        roster[sender] = true;
+    }
+    handed.draft.rules.roster = roster;
+    accepted(&handed.draft)
+}
+
+/// A sender, the desk itself, or anybody else.
+fn strike_at_desk(random: &mut Random, handed: &mut Handed) -> Answer {
+    let records = &handed.draft.records;
+    let senders: Vec<usize> = records.iter().filter_map(sender_of).collect();
+    let anybody = random.between(1, 499);
+    let struck = match random.below(6) {
+        0 => handed.entity,
+        1 => anybody,
+        _ if senders.is_empty() => anybody,
+        _ => *random.pick(&senders),
+    };
+    let is_struck = |record: &Record| sender_of(record) == Some(struck);
+    let place = records.iter().position(is_struck);
+    handed.draft.rules.roster[struck] = false;
+    match place {
+        Some(place) => refused(204, place),
+        None => accepted(&handed.draft),
+    }
+}
+
+pub fn another_date(random: &mut Random, draft: &mut Draft) -> Answer {
     let old = draft.rules.date;
     while draft.rules.date == old {
         let neighbour = old.wrapping_add(1);

@@ -7,8 +7,8 @@ use borrow.Author.Needs.{needs}
 use borrow.Author.Tests.{not-true, not-false}
 use lib.ListN.{length, drop}
 use Rattle.paper.specs.Fields.{every, good}
+use Rattle.paper.specs.Records.{ReadingRules}
 use Rattle.paper.specs.Reading.{start, lengthGood, finish, readingFrom, parts}
-use Rattle.paper.specs.declared.rules.Rules.{Rules}
 use Rattle.state.specs.declared.State.{State}
 use Rattle.state.specs.States.{meant, stepSays, RoomToCount, Preceded, Kept}
 use Rattle.verdicts.specs.Verdicts.{under}
@@ -19,7 +19,7 @@ use Rattle.reading.proofs.read.Statement.{statement}
 use Rattle.reading.proofs.read.Tie as tie
 
 -- the records before this place have been read, and the rest will answer for the whole
-record Progress (rules : Rules) (file : List ℕ) (clean : Bool) (records place : ℕ) (st : State) : Type 0 where
+record Progress (rules : ReadingRules) (file : List ℕ) (clean : Bool) (records place : ℕ) (st : State) : Type 0 where
   pub within : place ≤ records
   pub fit : lengthGood (length file) ≡ true
   pub short : length file ≤ 940000

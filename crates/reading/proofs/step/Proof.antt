@@ -4,7 +4,7 @@ use Rattle.paper.specs.Checks.{fine, need}
 use Rattle.paper.specs.Fields.{every, good}
 use Rattle.paper.specs.Kinds.{allowed, kindOf}
 use Rattle.paper.proofs.Exactly.{also-r}
-use Rattle.field.specs.Places.{recordAt}
+use Rattle.paper.specs.Reading.{recordAt}
 use Rattle.state.specs.States.{stepSays, Kept}
 use Rattle.verdicts.specs.Verdicts.{checkOf}
 use Rattle.verdicts.proofs.Chain.{begun}

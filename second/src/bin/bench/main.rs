@@ -5,10 +5,12 @@ mod extracting;
 mod measuring;
 mod presenting;
 mod reading;
+mod receiving;
 
 fn main() {
     reading::run();
     presenting::run();
     extracting::run();
     building::run();
+    receiving::run();
 }

@@ -11,10 +11,12 @@ mod job;
 mod least;
 mod listings;
 mod readings;
+mod received;
 mod round_trips;
 mod running;
 mod sharing;
 mod showing;
+mod shown;
 mod strips;
 mod trays;
 mod writing;
@@ -22,12 +24,12 @@ mod writing;
 use running::run;
 
 /// Each part says its numbers; the first difference, or the first part that shows too little, ends the run.
-pub fn run_all(seed: u64, cases: [u64; 6]) -> bool {
-    let [files, days, listings, extracts, trays, strips] = cases;
+pub fn run_all(seed: u64, cases: [u64; 8]) -> bool {
+    let [files, days, listings, extracts, trays, strips, received, shown] = cases;
     // Said first, so that a run that breaks off can be made again.
     println!(
         "seed {seed}, {files} files, {days} days, {listings} listings, {extracts} extracts, \
-         {trays} trays, {strips} strips"
+         {trays} trays, {strips} strips, {received} received, {shown} shown"
     );
     run(seed, files, least::FILES)
         && run(seed, days, least::DAYS)
@@ -35,4 +37,6 @@ pub fn run_all(seed: u64, cases: [u64; 6]) -> bool {
         && run(seed, extracts, least::EXTRACTS)
         && run(seed, trays, least::TRAYS)
         && run(seed, strips, least::STRIPS)
+        && run(seed, received, least::RECEIVED)
+        && run(seed, shown, least::SHOWN)
 }

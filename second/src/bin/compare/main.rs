@@ -1,4 +1,4 @@
-//! `compare SEED FILES DAYS LISTINGS EXTRACTS TRAYS STRIPS`: both programs on generated input, until they differ.
+//! `compare SEED FILES DAYS LISTINGS EXTRACTS TRAYS STRIPS RECEIVED SHOWN`: both programs on generated input, until they differ.
 
 use std::process::ExitCode;
 
@@ -8,15 +8,20 @@ fn main() -> ExitCode {
     let arguments = std::env::args().skip(1).map(|argument| argument.parse());
     let arguments: Result<Vec<u64>, _> = arguments.collect();
     match arguments.as_deref() {
-        Ok(&[seed, files, days, listings, extracts, trays, strips]) => {
-            if jobs::run_all(seed, [files, days, listings, extracts, trays, strips]) {
+        Ok(&[seed, files, days, listings, extracts, trays, strips, received, shown]) => {
+            let cases = [
+                files, days, listings, extracts, trays, strips, received, shown,
+            ];
+            if jobs::run_all(seed, cases) {
                 ExitCode::SUCCESS
             } else {
                 ExitCode::FAILURE
             }
         }
         _ => {
-            eprintln!("usage: compare SEED FILES DAYS LISTINGS EXTRACTS TRAYS STRIPS");
+            eprintln!(
+                "usage: compare SEED FILES DAYS LISTINGS EXTRACTS TRAYS STRIPS RECEIVED SHOWN"
+            );
             ExitCode::from(2)
         }
     }

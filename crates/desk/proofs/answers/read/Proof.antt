@@ -1,19 +1,11 @@
-use mathlib.Core.Path.{sym, ap, _∙_}
 use borrow.Author.Needs.{needs}
-use Rattle.reading.specs.Said.{readingSays}
+use Rattle.paper.specs.Reading.{reading}
 use Rattle.desk.proofs.answers.read.Statement.{statement}
 use Rattle.desk.proofs.answers.read.Tie as tie
 
 returns : tie.Need-returns
-unfolding readingSays
-returns c = let read : tie.After-read = search in sym (ap readingSays (c .enum-told .given .1)) ∙ read .read .ensures .0
-
-returns-2 : tie.Need-returns-2
-unfolding readingSays
-returns-2 c =
-    let wrong : tie.After-fault = search in
-    let read : tie.After-read = search in
-    sym (ap readingSays (wrong .fault .given .1)) ∙ read .read .ensures .0
+unfolding reading
+returns c = c .read-by .ensures
 
 pub read-spec : {M : Type 1} → statement M
-read-spec = tie.close (tie.spec (λ c κs. search needs) (λ c. search needs) (λ c. search needs) returns returns-2)
+read-spec = tie.close (tie.spec (λ c κs. search needs) returns)

@@ -16,7 +16,7 @@ returns c =
     let at-need2 : tie.After-need2 = search in
     let at-reads : tie.After-reads = search in
     let at-also : tie.After-also = search in
-    let at-member-field : tie.After-member-field = search in
+    let at-destination : tie.After-destination = search in
     let at-need : tie.After-need = search in
     let at-known : tie.After-known = search in
     let at-code : tie.After-code = search in
@@ -31,7 +31,7 @@ returns c =
       at-need2 .need2 .ensures,
       at-reads .reads .ensures,
       at-also .also .ensures,
-      at-member-field .member-field .ensures,
+      at-destination .destination .ensures,
       at-need .need .ensures,
       at-known .known .ensures,
       at-code .code .ensures,

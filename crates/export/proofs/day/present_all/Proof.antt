@@ -29,17 +29,17 @@ loop-holds c = let start : tie.Start Inv-loop μ-loop = search in record { long 
 
 loop-again : tie.Need-loop-again Inv-loop μ-loop
 loop-again c =
-    let handed : tie.After-hand-answer Inv-loop μ-loop = search in
+    let handed : tie.After-hand-pair Inv-loop μ-loop = search in
     let spoken : tie.After-speak Inv-loop μ-loop = search in
     let presented : tie.After-present Inv-loop μ-loop = search in
     let file : tie.After-between Inv-loop μ-loop = search in
     let turn : tie.In-loop Inv-loop μ-loop = search in
     let head : tie.At-loop Inv-loop μ-loop = search in
     record {
-      long = omega (arith, handed .hand-answer .kept .1 .1 .0);
+      long = omega (arith, handed .hand-pair .kept .1 .1 .1 .0);
       reached = presented .present .ensures .1;
       left = head .loop .inv .left
-          ∙ one-turn _ _ _ _ (standing (head .loop .after)) (head .loop .answers) (turn .loop-test .taken) (file .between .ensures) (presented .present .ensures .0) (spoken .speak .ensures) (handed .hand-answer .ensures);
+          ∙ one-turn _ _ _ _ (standing (head .loop .after)) (head .loop .answers) (turn .loop-test .taken) (file .between .ensures) (presented .present .ensures .0) (spoken .speak .ensures) (handed .hand-pair .ensures);
     }
 
 returns : tie.Need-returns Inv-loop μ-loop

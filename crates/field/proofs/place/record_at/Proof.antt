@@ -3,7 +3,7 @@ use mathlib.Core.Path.{_≡_}
 use borrow.Author.Needs.{needs}
 use native.Mathlib.Omega.{arith}
 use lib.ListN.{length-take, length-drop}
-use Rattle.field.specs.Places.{recordAt}
+use Rattle.paper.specs.Reading.{recordAt}
 use Rattle.field.proofs.place.record_at.Statement.{statement}
 use Rattle.field.proofs.place.record_at.Tie as tie
 

@@ -4,10 +4,17 @@ use Rattle.verdicts.proofs.Chain.{begun}
 use Rattle.headers.proofs.batch_header.judge.Statement.{statement}
 use Rattle.headers.proofs.batch_header.judge.Tie as tie
 
+-- the start lies too far back to be found at once
+abbrev begins : (c : tie.After-date) → tie.Start
+begins c = search
+
+number-good-requires : tie.Need-number-good-requires
+number-good-requires c κs = let start = begins (search) in search (needs, start .pre)
+
 returns : tie.Need-returns
 unfolding batchHeader
 returns c =
-    let at-digits4 : tie.After-digits4 = search in
+    let at-number-good : tie.After-number-good = search in
     let at-also : tie.After-also = search in
     let at-member-field : tie.After-member-field = search in
     let at-need6 : tie.After-need6 = search in
@@ -24,7 +31,7 @@ returns c =
     let at-digits : tie.After-digits = search in
     simp (
       c .need7 .ensures,
-      at-digits4 .digits4 .ensures,
+      at-number-good .number-good .ensures,
       at-also .also .ensures,
       at-member-field .member-field .ensures,
       at-need6 .need6 .ensures,
@@ -48,5 +55,5 @@ judge-spec =
     (tie.spec
     (λ c κs. search needs) (λ c κs. search needs) (λ c κs. search needs) (λ c κs. search needs) (λ c κs. search needs)
     (λ c κs. search needs) (λ c κs. search needs) (λ c κs. search needs) (λ c κs. search needs) (λ c κs. search needs)
-    (λ c κs. search needs) (λ c κs. search needs) (λ c κs. search needs) (λ c κs. search needs) (λ c κs. search needs)
+    (λ c κs. search needs) (λ c κs. search needs) (λ c κs. search needs) (λ c κs. search needs) number-good-requires
     (λ c κs. search needs) returns)

@@ -5,7 +5,7 @@ use Rattle.headers.proofs.file_header.judge.Statement.{statement}
 use Rattle.headers.proofs.file_header.judge.Tie as tie
 
 -- the start lies too far back to be found at once
-abbrev begins : (c : tie.After-entity-field) → tie.Start
+abbrev begins : (c : tie.After-origin-good) → tie.Start
 begins c = search
 
 time-requires : tie.Need-time-requires
@@ -17,13 +17,13 @@ identifier-requires c κs = let start = begins (search) in search (needs, start 
 reads-requires-6 : tie.Need-reads-requires-6
 reads-requires-6 c κs = let start = begins (search) in search (needs, start .pre)
 
-member-requires : tie.Need-member-requires
-member-requires c κs = let start = begins (search) in search (needs, start .pre)
+headed-requires : tie.Need-headed-requires
+headed-requires c κs = let start = begins (search) in search (needs, start .pre)
 
 returns : tie.Need-returns
 unfolding fileHeader
 returns c =
-    let at-member : tie.After-member = search in
+    let at-headed : tie.After-headed = search in
     let at-need7 : tie.After-need7 = search in
     let at-reads6 : tie.After-reads6 = search in
     let at-need6 : tie.After-need6 = search in
@@ -38,14 +38,14 @@ returns c =
     let at-spells : tie.After-spells = search in
     let at-date : tie.After-date = search in
     let at-reads4 : tie.After-reads4 = search in
-    let at-entity-field : tie.After-entity-field = search in
+    let at-origin-good : tie.After-origin-good = search in
     let at-reads3 : tie.After-reads3 = search in
     let at-reads2 : tie.After-reads2 = search in
     let at-digits : tie.After-digits = search in
     let at-reads : tie.After-reads = search in
     simp (
       c .also .ensures,
-      at-member .member .ensures,
+      at-headed .headed .ensures,
       at-need7 .need7 .ensures,
       at-reads6 .reads6 .ensures,
       at-need6 .need6 .ensures,
@@ -60,7 +60,7 @@ returns c =
       at-spells .spells .ensures,
       at-date .date .ensures,
       at-reads4 .reads4 .ensures,
-      at-entity-field .entity-field .ensures,
+      at-origin-good .origin-good .ensures,
       at-reads3 .reads3 .ensures,
       at-reads2 .reads2 .ensures,
       at-digits .digits .ensures,
@@ -77,4 +77,4 @@ judge-spec =
     (λ c κs. search needs) (λ c κs. search needs) (λ c. search needs) (λ c κs. search needs) (λ c κs. search needs)
     (λ c κs. search needs) (λ c κs. search needs) (λ c κs. search needs) time-requires (λ c κs. search needs)
     identifier-requires (λ c κs. search needs) (λ c. search needs) reads-requires-6 (λ c κs. search needs)
-    member-requires (λ c κs. search needs) returns)
+    headed-requires (λ c κs. search needs) returns)

@@ -27,7 +27,7 @@ returns-3 c =
     let asked-2 : tie.After-is2 = search in
     let no-1 : tie.Else1 = search in
     let asked : tie.After-is = search in
-    rw (c .asked-to-write .ensures, sym (asked .is .ensures) ∙ no-1 .if1 .left, sym (asked-2 .is2 .ensures) ∙ no-2 .if2 .left)
+    rw (c .asked-of-extract .ensures, sym (asked .is .ensures) ∙ no-1 .if1 .left, sym (asked-2 .is2 .ensures) ∙ no-2 .if2 .left)
 
 pub asked-for-spec : {M : Type 1} → statement M
 asked-for-spec =

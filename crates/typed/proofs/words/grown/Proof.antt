@@ -22,7 +22,7 @@ returns c =
     let asked : tie.After-digit = search in
     let start : tie.Start = search in
     let s = start .args in
-    grown-bounded (s .n) (s .b) (rw (sym (asked .digit .ensures) ∙ not-true (asked .digit .result) (c .if1 .taken)))
+    grown-bounded (s .most) (s .n) (s .b) (rw (sym (asked .digit .ensures) ∙ not-true (asked .digit .result) (c .if1 .taken)))
 
 returns-2 : tie.Need-returns-2
 unfolding grown
@@ -30,7 +30,7 @@ returns-2 c =
     let as-digit : tie.Else1 = search in
     let start : tie.Start = search in
     let s = start .args in
-    grown-bounded (s .n) (s .b) (rw (is-digit (as-digit), lt-leb (s .n) 499 (c .if2 .taken)))
+    grown-bounded (s .most) (s .n) (s .b) (rw (is-digit (as-digit), lt-leb (s .n) (s .most) (c .if2 .taken)))
 
 sub-result : tie.Need-sub-result
 sub-result c =
@@ -43,7 +43,7 @@ returns-3 c =
     let as-digit : tie.Else1 = search in
     let start : tie.Start = search in
     let s = start .args in
-    grown-bounded (s .n) (s .b) (rw (is-digit (as-digit), le-leb (s .n) 499 (c .if2 .left)) (omega arith))
+    grown-bounded (s .most) (s .n) (s .b) (rw (is-digit (as-digit), le-leb (s .n) (s .most) (c .if2 .left)) (omega arith))
 
 pub grown-spec : {M : Type 1} → statement M
 grown-spec =

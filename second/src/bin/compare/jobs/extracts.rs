@@ -2,7 +2,7 @@
 
 use super::fields::{total, AMOUNT, DESTINATION};
 use super::job::Seen;
-use super::sharing::{reads_with_its_origin, shared_out};
+use super::sharing::{is_received, reads_with_its_origin, shared_out};
 use super::writing::Writing;
 use second::generate::extract::{generate_extract, ExtractCase, Extraction};
 use second::{proved, read, Written};
@@ -28,6 +28,7 @@ impl Writing for Extraction {
             return Ok(());
         };
         reads_with_its_origin(case, &left.buffer[..length])?;
+        is_received(case, &left.buffer[..length])?;
         if is_for_everybody(number) {
             shared_out(case)?;
         }
@@ -72,6 +73,11 @@ impl Seen<ExtractCase> {
         let listed = self.case.rules.roster[1..].iter().filter(|&&listed| listed);
         let everybody = self.accepted() && is_for_everybody(self.number);
         listed.filter(|_| everybody).count() as u64
+    }
+
+    /// How often both programs have received what both had extracted.
+    pub fn received(&self) -> u64 {
+        u64::from(self.accepted()) + self.made_for()
     }
 
     pub fn header(&self) -> &[u8] {

@@ -4,14 +4,18 @@ use super::counting::Rows::{self, *};
 use super::fields::{several, total, AMOUNT, BRANCH, DESTINATION, SENDER};
 use super::form::{bad_tail, bad_type, is_odd, keeps_letter, mixes_kinds, mixes_letters, stray_at, stray_byte};
 use super::job::Seen;
+use super::received::{DESK, ORIGIN};
+use second::fields::entity;
 use second::generate::day::DayCase;
 use second::generate::extract::ExtractCase;
 use second::generate::listing::ListingCase;
+use second::generate::receive::ReceiveCase;
+use second::generate::show::ShowCase;
 use second::generate::strip::StripCase;
 use second::generate::tray::TrayCase;
 use second::generate::Case;
 use second::individual::Code;
-use second::Currency;
+use second::{Currency, Source};
 
 const TEN_DIGITS: u64 = 9_999_999_999;
 const ELEVEN_DIGITS: u64 = 99_999_999_999;
@@ -126,6 +130,7 @@ pub const EXTRACTS: &[Rows<ExtractCase>] = &[
     Sums(&[
         ("batches numbered anew", 3_000, Seen::numbered_anew),
         ("made for everybody on the roster", 10_000, Seen::made_for),
+        ("received by both programs", 30_000, Seen::received),
     ]),
 ];
 
@@ -280,4 +285,174 @@ pub const STRIPS: &[Rows<StripCase>] = &[
         ("another date", 1), ("rules of no date", 1), ("date of too many digits", 1),
         ("other currency", 1), ("empty roster", 1), ("entity struck", 1),
     ]),
+];
+
+pub const RECEIVED: &[Rows<ReceiveCase>] = &[
+    Named(&[
+        ("received", 30_000), ("accepted", 5_000),
+        ("refused 201", 540), ("refused 17", 8_700), ("refused 19", 220), ("refused 25", 550), ("refused 27", 270),
+        ("refused 75", 420), ("refused 77", 220), ("refused 78", 220), ("refused 79", 210), ("refused 87", 210),
+        ("refused 203", 460), ("refused 204", 260), ("refused 208", 1_700),
+        ("openings refused by 75", 760), ("openings refused by 208", 390),
+    ]),
+    Cases(|seen| seen.refused(208), &[
+        ("208 for a number of nobody", 760, Seen::is_by_nobody),
+        ("208 for 0", 70, |seen| seen.entity() == 0),
+        ("208 for 499", 190, |seen| seen.entity() == 499),
+        ("208 for 500", 90, |seen| seen.entity() == 500),
+        ("208 beyond 32 bits", 180, |seen| seen.entity() > u64::from(u32::MAX)),
+        ("208 for one not on the roster", 980, |seen| !seen.is_by_nobody()),
+        ("208 and a damaged file", 1_100, Seen::is_damaged),
+    ]),
+    // The header: whose it is, and the frames of both names.
+    Cases(|seen| seen.refused_at_header(17), &[
+        ("17 for another desk on the roster", 1_500, |seen| seen.other_desk_listed() == Some(true)),
+        ("17 for another desk not on the roster", 30, |seen| seen.other_desk_listed() == Some(false)),
+        ("17 for the desk's number in the other currency", 100, |seen| seen.other_desk_is_own() == Some(true)),
+        ("17 for another desk in the other currency", 40, |seen| seen.other_desk_is_own() == Some(false)),
+        ("17 for the desk at another branch", 95, |seen| seen.other_desk().is_some_and(|other| other[..4] == seen.own()[..4])),
+        ("17 for a header of nobody", 610, |seen| seen.other_desk().is_some_and(|other| entity(other).is_none())),
+        ("17 for an extract of another desk", 590, |seen| seen.is_for_another() && !seen.is_damaged()),
+        ("17 for position 4", 60, |seen| seen.is_cured_by(3..4, b" ")),
+        ("17 for position 13", 55, |seen| seen.is_cured_by(12..13, b"0")),
+        ("17 for position 14", 65, |seen| seen.is_cured_by(13..14, b" ")),
+        ("17 for position 23", 65, |seen| seen.is_cured_by(22..23, b"0")),
+        ("17 for no digit in 5-12", 150, |seen| seen.other_desk().is_none() && seen.is_cured_by(DESK, &seen.own())),
+        ("17 for no digit in 15-22", 120, |seen| seen.is_cured_by(ORIGIN, b"00000000")),
+        ("17 for 2-3", 35, |seen| seen.is_cured_by(1..3, b"01")),
+        ("17 for the time", 35, |seen| seen.is_cured_by(29..33, b"    ")),
+        ("17 for the identifier", 35, |seen| seen.is_cured_by(33..34, b"A")),
+        ("17 for 35-40", 35, |seen| seen.is_cured_by(34..40, b"094101")),
+    ]),
+    Cases(|seen| seen.refused_at_header(75), &[
+        ("75 at the header", 270, |_| true),
+        ("75 before another desk's header", 270, |seen| seen.header()[DESK] != seen.own()),
+        ("75 before another branch", 30, |seen| seen.header()[DESK] != seen.own() && seen.header()[DESK][..4] == seen.own()[..4]),
+        ("75 before a header of nobody", 45, |seen| entity(&seen.header()[DESK]).is_none()),
+    ]),
+    // Batch numbers: the one found, and the one that should stand there.
+    Cases(|seen| seen.wrong_number().is_some(), &[
+        ("17 for batch number 0", 290, |seen| seen.wrong_digits().is_some_and(|(number, _)| number == 0)),
+        ("17 for a first batch numbered 2", 240, |seen| seen.wrong_digits() == Some((2, 1))),
+        ("17 for a batch number repeated", 55, |seen| seen.wrong_digits().is_some_and(|(number, own)| own > 1 && number + 1 == own)),
+        ("17 for a batch number left out", 30, |seen| seen.wrong_digits().is_some_and(|(number, own)| own > 1 && number == own + 1)),
+        ("17 for a batch number of any kind", 480, |seen| seen.wrong_digits().is_some_and(|(number, own)| number > own + 1)),
+        ("17 for a batch number of no digits", 290, |seen| seen.wrong_digits().is_none()),
+        ("17 for the tenth batch or a later one", 45, |seen| seen.wrong_number().is_some_and(|(_, own)| own >= 10)),
+    ]),
+    Cases(|seen| seen.refused(17), &[
+        ("17 for a foreign destination on the roster", 240, |seen| seen.foreign_listed() == Some(true)),
+        ("17 for a foreign destination not on the roster", 90, |seen| seen.foreign_listed() == Some(false)),
+        ("17 at an additional record", 350, |seen| seen.refused_at(17, b'7').is_some()),
+        ("17 at a batch control", 500, |seen| seen.refused_at(17, b'8').is_some()),
+        ("17 at the file control", 380, |seen| seen.refused_at(17, b'9').is_some()),
+        ("17 for a foreign destination before 77", 40, |seen| seen.foreign_listed().is_some() && seen.is_before_77(17)),
+        ("17 for a destination of nobody", 340, |seen| seen.wrong_destination(17).is_some() && seen.foreign_listed().is_none()),
+    ]),
+    Cases(|seen| seen.refused(203), &[
+        ("203 for the desk's own destination", 120, |seen| seen.other_currency_is_own() == Some(true)),
+        ("203 for a foreign destination", 170, |seen| seen.other_currency_is_own() == Some(false)),
+        ("203 for a destination before 77", 40, |seen| seen.is_before_77(203)),
+        ("203 for a sender", 150, |seen| seen.wrong_destination(203).is_none()),
+    ]),
+    Cases(Seen::is_accepted, &[
+        ("accepted in pesos", 2_300, |seen| seen.accepted_in(Currency::Pesos)),
+        ("accepted in dollars", 2_300, |seen| seen.accepted_in(Currency::Dollars)),
+        ("header and control only", 1_100, |seen| seen.records() == 2),
+        ("several batches", 1_900, |seen| seen.batches() > 1),
+        ("ten batches and more", 270, |seen| seen.batches() >= 10),
+        ("more than 1000 batches", 1, |seen| seen.batches() > 1_000),
+        ("10000 records", 3, |seen| seen.records() == 10_000),
+        ("at several branches", 2_500, |seen| several(&seen.individuals(), BRANCH)),
+        ("an origin of nobody", 3_600, |seen| entity(&seen.header()[ORIGIN]).is_none()),
+        ("the desk's own as origin", 120, |seen| seen.header()[ORIGIN] == seen.own()),
+        ("for entity 1 or 499", 1_700, |seen| matches!(seen.entity(), 1 | 499)),
+        ("totals beyond ten digits", 15, |seen| total(&seen.individuals(), DESTINATION) > TEN_DIGITS),
+        ("sums of twelve digits", 230, |seen| total(&seen.individuals(), AMOUNT) > ELEVEN_DIGITS),
+    ]),
+    Records(|seen| seen.individuals(), &[
+        ("code 37", 45_000, |record| record.starts_with(b"637")),
+        ("code 36", 12_000, |record| record.starts_with(b"636")),
+        ("code 32", 3_900, |record| record.starts_with(b"632")),
+        ("code 31", 7_800, |record| record.starts_with(b"631")),
+    ]),
+    // What the generator has made.
+    Named(&[
+        ("extract", 3_300), ("any origin", 840), ("one fault", 3_300), ("fault in the header", 500), ("header and date", 240),
+        ("fault in a batch header", 840), ("fault in a record", 840), ("two faults in one record", 850),
+        ("two faults in two records", 850), ("batch numbers", 850), ("foreign destinations", 850), ("byte flipped", 1_600),
+        ("length", 840), ("house file", 840),
+        ("desk's header on a house file", 840), ("house file readdressed", 590), ("sums of twelve digits", 50),
+        ("totals of eleven digits", 20), ("thirteen digits in a batch", 60), ("thirteen digits in the file", 40),
+        ("10,000 records", 11), ("cut after a record", 65), ("record dropped", 60), ("record doubled", 50), ("records swapped", 55),
+        ("surplus after the 9", 55), ("another type", 140), ("record inserted", 55), ("additional missing", 60),
+        ("additional surplus", 55), ("empty batch", 55), ("another date", 90), ("rules of no date", 110),
+        ("date of too many digits", 110), ("other currency", 110), ("empty roster", 110), ("roster of those in use", 110),
+        ("entity struck", 110),
+    ]),
+];
+
+pub const SHOWN: &[Rows<ShowCase>] = &[
+    Named(&[
+        ("shown", 30_000), ("accepted", 6_400),
+        ("refused 208", 870), ("refused 207", 2_300), ("refused 214", 5_600),
+        ("refused 201", 140), ("refused 17", 2_800), ("refused 19", 40), ("refused 25", 160), ("refused 27", 60), ("refused 75", 110),
+        ("refused 77", 50), ("refused 78", 55), ("refused 79", 50), ("refused 87", 45), ("refused 203", 140), ("refused 204", 60),
+        ("openings refused by 75", 490), ("openings refused by 208", 410),
+    ]),
+    Cases(|seen| seen.stands_in(Source::File), &[
+        ("texts of the file", 4_000, |_| true),
+        ("texts of a 36", 2_600, |seen| seen.before().starts_with(b"636")),
+        ("texts of a 31", 1_300, |seen| seen.before().starts_with(b"631")),
+        ("texts with a character at 36 alone", 750, |seen| seen.only_character() == Some(36)),
+        ("texts with a character at 79 alone", 790, |seen| seen.only_character() == Some(79)),
+        ("texts of one character elsewhere", 720, |seen| seen.only_character().is_some_and(|position| (37..79).contains(&position))),
+        ("texts of several characters", 1_700, |seen| seen.only_character().is_none()),
+    ]),
+    Cases(|seen| seen.stands_in(Source::Motives), &[
+        ("lines of the list", 2_400, |_| true),
+        ("lines for a 36", 1_500, |seen| seen.before().starts_with(b"636")),
+        ("lines for a 31", 810, |seen| seen.before().starts_with(b"631")),
+        ("lines for R00", 480, |seen| seen.line() == Some(0)),
+        ("lines for R99", 450, |seen| seen.line() == Some(99)),
+        ("lines of blanks", 290, |seen| seen.answer.as_ref().is_ok_and(|(_, text)| *text == [b' '; 44])),
+    ]),
+    Cases(|seen| seen.answer.is_ok(), &[("reasons beyond record 5000", 3, |seen| seen.case.record > 5_000)]),
+    Different(&[("lines for different R numbers", 50, Seen::line)]),
+    // Every kind of record that is no rejection's additional, and places behind the file.
+    Cases(|seen| seen.refused(214), &[
+        ("214 for the file header", 290, |seen| seen.case.record == 0),
+        ("214 for a batch header", 280, |seen| seen.record().starts_with(b"5")),
+        ("214 for the rejection itself", 770, |seen| seen.record().starts_with(b"636") || seen.record().starts_with(b"631")),
+        ("214 for another individual record", 230, |seen| seen.record().starts_with(b"637") || seen.record().starts_with(b"632")),
+        ("214 for an additional 05", 310, |seen| seen.record().starts_with(b"705")),
+        ("214 for a batch control", 470, |seen| seen.record().starts_with(b"8")),
+        ("214 for the file control", 290, |seen| seen.record().starts_with(b"9")),
+        ("214 for one past the last", 1_000, |seen| seen.case.record == seen.records()),
+        ("214 for far behind the file", 1_300, |seen| seen.case.record > seen.records() + 1_000),
+        ("214 beyond 32 bits", 850, |seen| seen.case.record > u64::from(u32::MAX)),
+        ("214 for the last number there is", 230, |seen| seen.case.record == u64::MAX),
+    ]),
+    Cases(|seen| seen.refused(207), &[
+        ("207 for no list", 150, |seen| seen.case.motives.is_empty()),
+        ("207 for 4399 bytes", 310, |seen| seen.case.motives.len() == 4_399),
+        ("207 for 4401 bytes", 320, |seen| seen.case.motives.len() == 4_401),
+        ("207 for 4444 bytes", 330, |seen| seen.case.motives.len() == 4_444),
+        ("207 and a refused file", 550, Seen::is_refused_anyway),
+        ("207 and no rejection's additional", 1_000, |seen| !seen.is_motive()),
+    ]),
+    Cases(|seen| seen.refused(208), &[
+        ("208 and a list of another length", 100, |seen| seen.case.motives.len() != 4_400),
+        ("208 and no rejection's additional", 400, |seen| !seen.is_motive()),
+    ]),
+    Cases(|seen| seen.case.motives.len() == 4_400 && seen.is_refused_anyway(), &[
+        ("a refused file and a rejection's additional", 2_800, Seen::is_motive),
+        ("a refused file and no rejection's additional", 2_600, |seen| !seen.is_motive()),
+    ]),
+    Sums(&[
+        ("records compared all at once", 385_000, Seen::compared),
+        ("reasons compared all at once", 89_000, Seen::reasons),
+    ]),
+    // What the generator has made.
+    Named(&[("rejections", 12_000), ("extract", 2_600), ("one fault", 960), ("house file", 230), ("10,000 records", 6)]),
 ];

@@ -2,7 +2,7 @@
 
 use super::job::Job;
 use second::generate::extract::ExtractCase;
-use second::proved;
+use second::{proved, receive};
 use std::collections::BTreeMap;
 
 /// A file that reads as good once its header has an origin again.
@@ -13,6 +13,19 @@ pub fn reads_with_its_origin(case: &ExtractCase, extract: &[u8]) -> Result<(), S
         Ok(records) if records * 94 == extract.len() => Ok(()),
         answer => Err(format!("the extract with its origin reads as {answer:?}")),
     }
+}
+
+/// Both programs receive it in the session it was made in, whichever has written it: their bytes are the same.
+pub fn is_received(case: &ExtractCase, extract: &[u8]) -> Result<(), String> {
+    let (entity, good) = (case.input.entity, Ok(extract.len() / 94));
+    let ours = receive(&case.rules, entity, extract);
+    let theirs = proved::receive(&case.opening, entity, extract);
+    if [ours, theirs] == [good; 2] {
+        return Ok(());
+    }
+    Err(format!(
+        "the extract for {entity} is received as {ours:?}, {theirs:?}"
+    ))
 }
 
 /// Every individual record with its additional stands in exactly one entity's extract, and in order.
@@ -46,6 +59,7 @@ fn extract_for(case: &ExtractCase) -> Result<Vec<u8>, String> {
         return Err(format!("the two differ for entity {}", case.input.entity));
     }
     let length = theirs.answer.map_err(|refusal| format!("{refusal:?}"))?;
+    is_received(case, &theirs.buffer[..length])?;
     Ok(theirs.buffer[..length].to_vec())
 }
 

@@ -1,0 +1,13 @@
+pub mod Characters
+pub mod Pieces
+pub mod Written
+pub mod Handed
+pub mod Heading
+pub mod Tallies
+pub mod Batches
+pub mod Found
+pub mod Chosen
+pub mod Steps
+pub mod Walk
+pub mod Received
+pub mod Reasons
