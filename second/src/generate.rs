@@ -22,6 +22,7 @@ pub mod listing;
 pub mod meant;
 mod opening;
 mod parcel;
+pub mod queue;
 pub mod random;
 pub mod receive;
 mod room;

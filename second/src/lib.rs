@@ -1,5 +1,5 @@
 //! An independent second program for document 01: reading, opening, presenting, extracting, building, stripping and the listing; with
-//! what ticket 1 of document 02 adds, receiving and showing reasons.
+//! what ticket 1 of document 02 adds, receiving and showing reasons. Beside it, the reading once more, tuned for speed.
 
 pub mod building;
 pub mod controls;
@@ -22,12 +22,13 @@ pub mod rules;
 pub mod session;
 pub mod stripping;
 pub mod tray;
+pub mod tuned;
 pub mod writing;
 
 pub use building::build;
 pub use currency::Currency;
 pub use listing::listing;
-pub use reading::read;
+pub use reading::{read, read_swept};
 pub use reasons::{reasons, show, Source, Standing};
 pub use receiving::receive;
 pub use refusal::Refusal;

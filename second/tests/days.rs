@@ -1,6 +1,8 @@
 //! Generated days: what was meant, and what holds on every day.
 
 use second::generate::day::generate_day;
+use second::generate::queue::{queue, Group};
+use second::generate::random::Random;
 use second::posting::postings;
 use second::{Refusal, Session};
 
@@ -101,4 +103,30 @@ fn days_reach_all_that_they_are_made_for() {
         kept > 300 && senders > 300 && alone > 300,
         "{kept} {senders} {alone}"
     );
+}
+
+/// Every file is good and of its length, and comes from another origin than the file before it.
+#[test]
+fn a_queue_is_accepted_whole() {
+    let group = |members, files, records| Group {
+        members,
+        files,
+        records,
+    };
+    let day = queue(
+        &mut Random::new(8, 0),
+        &[group(3, 36, 10), group(2, 5, 100), group(1, 36, 2)],
+    );
+    let outcome = day.run();
+    assert!(outcome.opening.is_ok() && outcome.answers.iter().all(Result::is_ok));
+    let files: Vec<&[u8]> = day.files().collect();
+    let of_length = |records: usize| {
+        files
+            .iter()
+            .filter(|file| file.len() == 94 * records)
+            .count()
+    };
+    assert_eq!([10, 100, 2].map(of_length), [108, 10, 36]);
+    let origin_again = |pair: &[&[u8]]| pair[0][14..18] == pair[1][14..18];
+    assert!(!files.windows(2).any(origin_again));
 }

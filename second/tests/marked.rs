@@ -121,11 +121,7 @@ fn lengths() {
 #[test]
 fn control_total_keeps_its_last_ten_digits() {
     let rules = rules(Currency::Dollars);
-    let mut records = vec![header("05010001"), batch_header("05010001", "0000001")];
-    records.extend(orders("05010001", "09999999", 1_001));
-    let sums = "0010010009998999000000001001000000000000";
-    records.push(batch_control(sums, "05010001", "0000001"));
-    records.push(file_control(&format!("00000100010100{sums}")));
+    let mut records = destinations_over_ten_digits();
     assert_eq!(answer(&rules, &records), Ok(1_005));
     put(&mut records[1_003], 11, "1009998999");
     assert_eq!(answer(&rules, &records), refused(17, 1_003));

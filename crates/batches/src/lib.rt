@@ -3,11 +3,9 @@ ghost use mathlib.Core.Path.{_≡_};
 ghost use Prim.Native.Nat.{_^_, _≤_};
 ghost use lib.ListN.{length};
 ghost use Rattle.paper.specs.Kinds.{kindOf};
-ghost use Rattle.paper.specs.Controls.{withIndividual};
 ghost use Rattle.controls.specs.Bounds.{Below};
 ghost use Rattle.batches.specs.Blocks.{opensBatch, withRecord};
 use controls::tally;
-use field::individual;
 use field::kind;
 use paper::record::Kind;
 use paper::record::Tally;
@@ -24,18 +22,6 @@ pub fn opens(rec: &[u8]) -> bool
     }
 }
 
-// As `with_individual`, which the reading alone calls, so that the compiler puts it into the loop there.
-fn counted_individual(tally: Tally, rec: &[u8]) -> Tally
-    requires { ⌜ length (now rec) ≡ 94 ⌝ }
-    requires { ⌜ Below (10 ^ 18) tally ⌝ }
-    ensures { λ r. ⌜ r ≡ withIndividual tally (now (rec .entry)) ⌝ }
-{
-    let destination = individual::destination_field(rec);
-    let code = kind::code(rec);
-    let amount = individual::amount(rec);
-    tally::with_entry(tally, destination, code, amount)
-}
-
 // A record counted with those before it.
 pub fn count(tally: Tally, rec: &[u8]) -> Tally
     requires { ⌜ length (now rec) ≡ 94 ⌝ }
@@ -43,7 +29,7 @@ pub fn count(tally: Tally, rec: &[u8]) -> Tally
     ensures { λ r. ⌜ r ≡ withRecord (kindOf (now (rec .entry))) tally (now (rec .entry)) ⌝ }
 {
     match kind::kind(rec) {
-        Kind::Individual => counted_individual(tally, rec),
+        Kind::Individual => tally::with_individual(tally, rec),
         Kind::Additional => tally::with_additional(tally),
         _ => tally,
     }

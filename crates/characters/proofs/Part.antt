@@ -1,10 +1,10 @@
 -- The part of a record that is lent is the field at the paper's positions.
-use Prim.Native.Nat.{ℕ, _+_, _-_, _<_}
-use mathlib.Core.List.{List, [], _∷_}
-use mathlib.Core.Path.{_≡_}
+use Prim.Native.Nat.{ℕ, _+_, _-_, _≤_, _<_}
+use mathlib.Core.List.{List, [], _∷_, _++_}
+use mathlib.Core.Path.{_≡_, ap, ap₂, _∙_}
 use native.Mathlib.Omega.{arith}
 use lib.ListN.{length, take, drop, getD, length-take, length-drop}
-use lib.Seq.{take-take, drop-cons}
+use lib.Seq.{take-take, drop-cons, take-add, drop-drop}
 use Rattle.paper.specs.Fields.{field}
 use Rattle.characters.specs.Part.{HasField}
 
@@ -28,3 +28,13 @@ first-four r first last e =
     let eight : last + 1 - first ≡ 8 = omega arith in
     let four : first + 3 + 1 - first ≡ 4 = omega arith in
     rw (eight, four) (take-take 4 8 (drop (first - 1) r) (omega arith))
+
+-- a field parted after one of its positions
+pub parted : (r : List ℕ) (first mid last : ℕ) → 1 ≤ first → first ≤ mid + 1 → mid ≤ last → field r first last ≡ field r first mid ++ field r (mid + 1) last
+parted r first mid last h k l =
+    let n : ℕ = mid + 1 - first in
+    let m : ℕ = last - mid in
+    let whole : last + 1 - first ≡ n + m = omega arith in
+    let rest : last + 1 - (mid + 1) ≡ m = omega arith in
+    let at : first - 1 + n ≡ mid + 1 - 1 = omega arith in
+    rw (whole, rest, take-add n m (drop (first - 1) r), drop-drop n (first - 1) r, at)

@@ -1,16 +1,17 @@
 -- The value of digits, one digit further, for any length.
 use Prim.Native.Nat.{ℕ, _+_, _-_, _*_, _^_, _≤_, _<_, _%_}
-use mathlib.Core.List.{List}
-use mathlib.Core.Bool.{Bool, true, false, _&&_}
-use mathlib.Core.Path.{_≡_, sym, _∙_}
+use mathlib.Core.List.{List, [], _∷_, _++_}
+use mathlib.Core.Bool.{Bool, true, false, _&&_, and-false}
+use mathlib.Core.Path.{_≡_, refl, sym, ap, _∙_}
 use native.Mathlib.Numerals.{add-one}
-use native.Mathlib.Nat.{pow-suc, pow-le-pow-right}
+use native.Mathlib.Nat.{pow-zero, pow-suc, pow-le-pow-right, pow-succ', zero-add, add-mul, mul-assoc}
 use native.Mathlib.Omega.{arith}
 use lib.Dec.{T, eqb, lit<}
 use lib.ListN.{length, drop, getD, drop-of-length-le}
 use lib.Seq.{drop-cons}
 use Rattle.paper.specs.Fields.{digit, digits, value, valueFrom, number, spells}
 use Rattle.paper.proofs.Tests.{within-range, T-of}
+use Rattle.paper.proofs.Digits.{every-append}
 use Rattle.characters.proofs.Scan.{every-at}
 
 -- i digits have been read, and they spell n
@@ -55,3 +56,37 @@ module _ (f : List ℕ) where
   unfolding spells
   spelled true n m e q = rw (← e, q (T-of (sym e)))
   spelled false n m e q = rw (← e)
+
+-- ---- digits joined
+
+value-through : (n : ℕ) (a b : List ℕ) → valueFrom n (a ++ b) ≡ valueFrom (valueFrom n a) b
+unfolding valueFrom
+value-through n [] b = refl
+value-through n (d ∷ a) b = value-through (n * 10 + (d - 48)) a b
+
+value-from : (n : ℕ) (b : List ℕ) → valueFrom n b ≡ n * 10 ^ length b + value b
+unfolding valueFrom
+value-from n [] = rw (pow-zero 10) (omega arith)
+value-from n (d ∷ b) =
+    let p : ℕ = 10 ^ length b in
+    let x = value-from (n * 10 + (d - 48)) b in
+    let y = value-from (d - 48) b in
+    let z : (n * 10 + (d - 48)) * p ≡ n * (10 * p) + (d - 48) * p = add-mul (n * 10) (d - 48) p ∙ ap (λ (q : ℕ). q + (d - 48) * p) (mul-assoc n 10 p) in
+    rw (x, zero-add (d - 48), y, pow-succ' 10 (length b)) (omega (arith, z))
+
+pub value-append : (a b : List ℕ) → value (a ++ b) ≡ value a * 10 ^ length b + value b
+value-append a b = value-through 0 a b ∙ value-from (value a) b
+
+-- the number of two fields joined, where both are digits
+module _ (a b : List ℕ) where
+  pub number-joined : digits a ≡ true → digits b ≡ true → number (a ++ b) ≡ value a * 10 ^ length b + value b
+  unfolding number
+  number-joined h k = rw (every-append digit a b, h, k) (value-append a b)
+
+  pub first-none : digits a ≡ false → 0 ≡ number (a ++ b)
+  unfolding number
+  first-none h = rw (every-append digit a b, h)
+
+  pub last-none : digits b ≡ false → 0 ≡ number (a ++ b)
+  unfolding number
+  last-none h = rw (every-append digit a b, h, and-false (digits a))

@@ -1,24 +1,26 @@
 // One byte.
 ghost use mathlib.Core.Path.{_≡_};
+ghost use mathlib.Core.Bool.{_||_};
 ghost use mathlib.Core.List.{[], _∷_};
+ghost use lib.Dec.{eqb};
 ghost use Rattle.paper.specs.Fields.{within, among, good, digit, capital};
 
-// From the blank to the low line.
+// From the blank to the low line, but for the four before it that the character set leaves out.
 fn printed(b: u8) -> bool
-    ensures { λ r. ⌜ r ≡ within 32 95 b ⌝ }
+    ensures { λ r. ⌜ r ≡ (within 32 90 b || eqb b 95) ⌝ }
 {
     match b {
-        32..=95 => true,
+        32..=90 | 95 => true,
         _ => false,
     }
 }
 
-// The seven of them that the character set leaves out.
+// The other three that it leaves out.
 fn barred(b: u8) -> bool
-    ensures { λ r. ⌜ r ≡ among (34 ∷ 38 ∷ 39 ∷ 91 ∷ 92 ∷ 93 ∷ 94 ∷ []) b ⌝ }
+    ensures { λ r. ⌜ r ≡ among (34 ∷ 38 ∷ 39 ∷ []) b ⌝ }
 {
     match b {
-        34 | 38..=39 | 91..=94 => true,
+        34 | 38..=39 => true,
         _ => false,
     }
 }

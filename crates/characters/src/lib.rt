@@ -2,3 +2,4 @@
 pub mod byte;
 pub mod number;
 pub mod text;
+pub mod word;

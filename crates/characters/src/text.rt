@@ -28,18 +28,17 @@ pub fn all_good(s: &[u8]) -> bool
     good
 }
 
-// An early way out: in a field that is filled in, the first byte mostly tells.
+// No early way out either: how many blanks a text begins with, nobody can foretell.
 fn all_blank(s: &[u8]) -> bool
     ensures { λ r. ⌜ r ≡ blank (now (s .entry)) ⌝ }
 {
+    let mut blank = true;
     let mut i: usize = 0;
     while i < s.len() {
-        if s[i] != b' ' {
-            return false;
-        }
+        blank = blank & (b' ' == s[i]);
         i += 1;
     }
-    true
+    blank
 }
 
 pub fn blank(rec: &[u8], first: usize, last: usize) -> bool

@@ -2,11 +2,12 @@
 use Prim.Native.Nat.{ℕ}
 use mathlib.Core.Bool.{true, false, not}
 use mathlib.Core.List.{List, []}
-use mathlib.Core.Path.{_≡_, refl, sym, ap, _∙_}
+use mathlib.Core.Path.{_≡_, refl, sym, ap, ap₂, _∙_}
 use lib.ListN.{getD, set}
 use Rattle.paper.specs.declared.ledger.Cell.{Cell}
 use Rattle.paper.specs.declared.rules.Currency.{Currency}
 use Rattle.paper.specs.declared.rules.Currency.the-variants.{Pesos}
+use Rattle.paper.specs.declared.rules.Rules.{Rules}
 use Rattle.paper.specs.Answers.{Said, accepted, refused, andThen, require, said}
 use Rattle.paper.specs.Fields.{every, within}
 use Rattle.paper.specs.Dates.{isDate}
@@ -21,8 +22,9 @@ use Rattle.paper.specs.Sessions as paper
 use Rattle.paper.specs.Sessions.{newSession, openingAnswer, openedWith, opening, keyOf, answerTo, cellsAfter, sessionAfter, presenting}
 use Rattle.desk.specs.declared.Session.{Session}
 use Rattle.desk.specs.declared.Reply.{Reply}
-use Rattle.desk.specs.Standing.{standing, heard, keyed, keyIf}
-use Rattle.desk.specs.Calls.{by-opening, by-presenting, Reachable}
+use Rattle.desk.specs.declared.rules.Opened.{Opened}
+use Rattle.desk.specs.Standing.{rulesListed, standing, holdingZeros, heard, keyed, keyIf}
+use Rattle.desk.specs.Calls.{RulesOpened, OpensRules, by-opening, by-presenting, Reachable}
 use Rattle.desk.proofs.Keys.{key-accepted}
 
 abbrev pub reply : Said → paper.Session → paper.Reply
@@ -30,19 +32,39 @@ reply answer session = record { answer = answer; session = session }
 
 -- ---- opening
 
+abbrev pub rulesIn : Said → Rules → RulesOpened
+rulesIn answer rules = record { answer = answer; rules = rules }
+
 module _ (date : ℕ) (currency : Currency) (entities : List ℕ) where
-  pub bad-date : isDate date ≡ false → reply (refused 75 0) (newSession 101 Pesos []) ≡ opening date currency entities
-  unfolding opening openingAnswer openedWith andThen require
+  -- the rules of the session that opening returns, with its answer
+  abbrev there : RulesOpened
+  there = rulesIn (opening date currency entities .answer) (opening date currency entities .session .rules)
+
+  pub bad-date : isDate date ≡ false → rulesIn (refused 75 0) (rulesListed 101 Pesos []) ≡ there
+  unfolding opening openingAnswer openedWith newSession andThen require
   bad-date d = rw d
 
-  pub bad-entity : isDate date ≡ true → every (within 1 499) entities ≡ false
-      → reply (refused 208 0) (newSession 101 Pesos []) ≡ opening date currency entities
-  unfolding opening openingAnswer openedWith andThen require
+  pub bad-entity : isDate date ≡ true → every (within 1 499) entities ≡ false → rulesIn (refused 208 0) (rulesListed 101 Pesos []) ≡ there
+  unfolding opening openingAnswer openedWith newSession andThen require
   bad-entity d e = rw (d, e)
 
-  pub opens : isDate date ≡ true → every (within 1 499) entities ≡ true → reply accepted (newSession date currency entities) ≡ opening date currency entities
-  unfolding opening openingAnswer openedWith andThen require
+  pub opens : isDate date ≡ true → every (within 1 499) entities ≡ true → rulesIn accepted (rulesListed date currency entities) ≡ there
+  unfolding opening openingAnswer openedWith newSession andThen require
   opens d e = rw (d, e)
+
+  -- that session holds zeros
+  zeros-there : (a : Said) → openedWith a date currency entities ≡ holdingZeros (openedWith a date currency entities .rules)
+  unfolding openedWith newSession
+  zeros-there accepted = refl
+  zeros-there (refused n place) = refl
+
+  pub opened-whole : (r : Opened) {session : Session} → OpensRules date currency entities r → standing session ≡ holdingZeros (r .rules)
+      → reply (said (r .answer)) (standing session) ≡ opening date currency entities
+  unfolding opening
+  opened-whole r h k =
+      let whole = zeros-there (openingAnswer date entities) in
+      let rules = ap (λ (o : RulesOpened). o .rules) h in
+      ap₂ reply (ap (λ (o : RulesOpened). o .answer) h) (k ∙ (ap holdingZeros rules ∙ sym whole))
 
   pub opened-so : (r : Reply) → heard r ≡ opening date currency entities → (heard r ≡ opening date currency entities) × Reachable (r .session)
   opened-so r h = (h, record { files = []; came = by-opening date currency entities r h })

@@ -6,7 +6,8 @@ use Rattle.paper.specs.declared.answer.Answer.{Answer}
 use Rattle.paper.specs.declared.answer.Output.{Output}
 use Rattle.paper.specs.declared.ledger.Cell.{Cell}
 use Rattle.paper.specs.declared.rules.Currency.{Currency}
-use Rattle.paper.specs.Answers.{said}
+use Rattle.paper.specs.declared.rules.Rules.{Rules}
+use Rattle.paper.specs.Answers.{Said, said}
 use Rattle.paper.specs.Reading.{reading}
 use Rattle.paper.specs.Buffers.{told, extracting, building, stripping}
 use Rattle.paper.specs.Receiving.{receiving, showable, showing}
@@ -16,11 +17,28 @@ use Rattle.reasons.specs.declared.Shown.{Shown}
 use Rattle.reasons.specs.Shown.{showingOf}
 use Rattle.desk.specs.declared.Session.{Session}
 use Rattle.desk.specs.declared.Reply.{Reply}
+use Rattle.desk.specs.declared.rules.Opened.{Opened}
 use Rattle.desk.specs.Standing.{rulesOf, standing, heard}
 
 -- of a date, a currency and a list of entity numbers: the session handed back with its answer
 abbrev pub Opens : ℕ → Currency → List ℕ → Reply → Type 0
 Opens date currency entities r = heard r ≡ opening date currency entities
+
+-- of these, and no session that is kept: the answer, and the rules of the session that opening returns
+pub record RulesOpened : Type 0 where
+  pub answer : Said
+  pub rules : Rules
+
+abbrev pub openedTo : Opened → RulesOpened
+openedTo r = record { answer = said (r .answer); rules = r .rules }
+
+abbrev pub OpensRules : ℕ → Currency → List ℕ → Opened → Type 0
+OpensRules date currency entities r =
+    openedTo r ≡ record { answer = opening date currency entities .answer; rules = opening date currency entities .session .rules }
+
+-- of rules and a file
+abbrev pub ReadsBy : Rules → List ℕ → Answer → Type 0
+ReadsBy rules file a = said a ≡ reading rules file
 
 -- of a session and a file
 abbrev pub Reads : Session → List ℕ → Answer → Type 0

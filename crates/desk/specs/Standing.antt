@@ -3,12 +3,13 @@ use Prim.Native.Nat.{ℕ}
 use mathlib.Core.Bool.{Bool, true, false, _&&_}
 use mathlib.Core.List.{List}
 use lib.Dec.{leb}
-use lib.ListN.{length}
+use lib.ListN.{length, replicate}
+use Rattle.paper.specs.declared.rules.Currency.{Currency}
 use Rattle.paper.specs.declared.rules.Rules.{Rules}
 use Rattle.paper.specs.Answers.{said}
 use Rattle.paper.specs.Fields.{field, identifierField}
 use Rattle.paper.specs.Sessions as paper
-use Rattle.paper.specs.Sessions.{keyOf}
+use Rattle.paper.specs.Sessions.{keyOf, listed, zeroCell}
 use Rattle.desk.specs.declared.Session.{Session}
 use Rattle.desk.specs.declared.Reply.{Reply}
 
@@ -18,6 +19,14 @@ rulesOf s = record { date = s .date; currency = s .currency; roster = s .roster 
 
 abbrev pub standing : Session → paper.Session
 standing s = record { rules = rulesOf s; cells = s .cells; used = s .used }
+
+-- of this date, currency and list of entity numbers
+abbrev pub rulesListed : ℕ → Currency → List ℕ → Rules
+rulesListed date currency entities = record { date = date; currency = currency; roster = listed 500 0 entities }
+
+-- a session of these rules that holds zeros
+abbrev pub holdingZeros : Rules → paper.Session
+holdingZeros rules = record { rules = rules; cells = replicate 500 zeroCell; used = replicate 18000 false }
 
 abbrev pub heard : Reply → paper.Reply
 heard r = record { answer = said (r .answer); session = standing (r .session) }

@@ -1,15 +1,8 @@
 // The desk: a session of one date, one currency and a roster of entities, and the jobs that take one.
 ghost use mathlib.Core.Path.{_≡_};
-ghost use mathlib.Core.Bool.{true};
-ghost use mathlib.Core.List.{[]};
-ghost use Rattle.paper.specs.declared.rules.Currency.the-variants.{Pesos};
-ghost use Rattle.paper.specs.Answers.{refused, numberOf};
-ghost use Rattle.paper.specs.Fields.{every, within};
 ghost use Rattle.paper.specs.Listing.{numbersTo};
-ghost use Rattle.paper.specs.Sessions.{listed, newSession};
-ghost use Rattle.desk.specs.Standing.{standing, heard};
+ghost use Rattle.desk.specs.Standing.{standing, holdingZeros};
 ghost use Rattle.desk.specs.Calls.{Opens, Reads, Presents, Extracts, Builds, Strips, Holds, HoldsAll, Reachable};
-use field::date;
 use field::place::Record;
 use paper::answer::Answer;
 use paper::answer::Fault;
@@ -23,6 +16,7 @@ mod answers;
 mod key;
 mod member;
 mod roster;
+pub mod rules;
 
 pub struct Session {
     date: u64,
@@ -41,47 +35,21 @@ pub struct Reply {
     pub session: Session,
 }
 
-// The list may be in any order, with repeats, or empty.
-fn marks(entities: &[u64]) -> [bool; Session::ROSTER]
-    requires { ⌜ every (within 1 499) (now entities) ≡ true ⌝ }
-    ensures { λ r. ⌜ r ≡ listed 500 0 (now (entities .entry)) ⌝ }
-{
-    let mut roster = [false; Session::ROSTER];
-    let mut i: usize = 0;
-    while i < entities.len() {
-        let entity = entities[i] as usize;
-        roster[entity] = true;
-        i += 1;
-    }
-    roster
-}
-
 // A new session holds zeros.
-fn new(date: u64, currency: Currency, entities: &[u64]) -> Session
-    requires { ⌜ every (within 1 499) (now entities) ≡ true ⌝ }
-    ensures { λ r. ⌜ standing r ≡ newSession date currency (now (entities .entry)) ⌝ }
+fn new(rules: Rules) -> Session
+    ensures { λ r. ⌜ standing r ≡ holdingZeros rules ⌝ }
 {
-    let roster = marks(entities);
+    let currency = rules.currency;
+    let roster = rules.roster;
     let zero = Cell::ZERO;
     let cells = [zero; Session::ROSTER];
     let used = [false; key::KEYS];
     Session {
-        date,
+        date: rules.date,
         currency,
         roster,
         cells,
         used,
-    }
-}
-
-// A refused opening returns a session of 000101, pesos, empty roster.
-fn not_opened(fault: Fault) -> Reply
-    ensures { λ r. ⌜ heard r ≡ record { answer = refused (numberOf fault) 0; session = newSession 101 Pesos [] } ⌝ }
-{
-    let nobody: [u64; 0] = [];
-    Reply {
-        answer: Answer::Refused(fault, 0),
-        session: new(Session::FIRST_DATE, Currency::Pesos, &nobody),
     }
 }
 
@@ -116,15 +84,12 @@ impl Session {
     pub fn open(date: u64, currency: Currency, entities: &[u64]) -> Reply
         ensures { λ r. ⌜ Opens date currency (now (entities .entry)) r × Reachable (r .session) ⌝ }
     {
-        if !date::is_date(date) {
-            return not_opened(Fault::Date);
-        }
-        if !roster::all_entities(entities) {
-            return not_opened(Fault::Entity);
-        }
+        let opened = rules::open(date, currency, entities);
+        let answer = opened.answer;
+        let rules = opened.rules;
         Reply {
-            answer: Answer::Accepted,
-            session: new(date, currency, entities),
+            answer,
+            session: new(rules),
         }
     }
 

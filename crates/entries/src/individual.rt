@@ -1,24 +1,54 @@
 // 6, individual.
 ghost use mathlib.Core.Path.{_≡_};
+ghost use mathlib.Core.Bool.{true};
+ghost use mathlib.Core.List.{List};
+ghost use Prim.Native.Nat.{ℕ, _<_};
 ghost use lib.ListN.{length};
-ghost use lib.Dec.{eqb};
-ghost use Rattle.paper.specs.Checks.{need, _also_};
-ghost use Rattle.paper.specs.Entities.{ofCurrency, entityField, entity};
-ghost use Rattle.paper.specs.Fields.{field};
-ghost use Rattle.paper.specs.Records.{accountGood, informationGood, flagGood, counterGood, destination, transfer, individual};
+ghost use Rattle.paper.specs.Entities.{entityValue, entity};
+ghost use Rattle.paper.specs.Fields.{digits};
+ghost use Rattle.paper.specs.Records.{amountOf, destinationField, accountGood, informationGood, flagGood, addressed, destination, transfer, individual};
 ghost use Rattle.verdicts.specs.Verdicts.{checkOf, under};
+ghost use Rattle.entries.specs.Judging.{movedSays, HandsMoved, judgedSays, HandsOn, closingRules};
 use characters::number;
 use characters::text;
+use characters::word;
+use characters::word::Numeral;
 use field::entity;
 use field::individual;
+use field::individual::Sequence;
 use field::kind;
 use paper::answer::Fault;
+use paper::record::Code;
 use paper::rules::Currency;
 use paper::rules::Reader;
 use paper::rules::Rules;
 use paper::rules::Terms;
-use verdicts::member;
 use verdicts::verdict::Verdict;
+
+// The numbers of an individual record.
+pub struct Entry {
+    pub code: Code,
+    // its field 4-11, and its amount
+    pub destination: u64,
+    pub amount: u64,
+    // 88-94
+    pub counter: u64,
+}
+
+// A record without fault with its numbers, each of them read once, or its first fault.
+pub enum Judged {
+    Good(Entry),
+    Wrong(Fault),
+}
+
+// The same of positions 2 to 54: field 4-11 and the amount.
+enum Moved {
+    Good(u64, u64),
+    Wrong(Fault),
+}
+
+// One past the largest number of four digits.
+const FOUR_DIGITS: u64 = 10000;
 
 pub fn account_good(rec: &[u8]) -> bool
     requires { ⌜ length (now rec) ≡ 94 ⌝ }
@@ -42,55 +72,100 @@ pub fn flag_good(rec: &[u8]) -> bool
     individual::flagged(rec) | (kind::is_order(kind::code(rec)) & text::reads(rec, 77, 78, b"00"))
 }
 
-pub fn counter_good(header: &[u8], previous: u64, rec: &[u8]) -> bool
-    requires { ⌜ length (now header) ≡ 94 ⌝ }
-    requires { ⌜ length (now rec) ≡ 94 ⌝ }
-    ensures { λ r. ⌜ r ≡ counterGood (now (header .entry)) previous (now (rec .entry)) ⌝ }
-{
-    text::same(rec, 80, 87, header, 80, 87) & (previous < number::number(rec, 88, 94))
-}
-
-// At a desk: an entity field, its currency, and that it is the desk's own entity.
-fn own(currency: Currency, desk: u64, rec: &[u8]) -> Verdict
-    requires { ⌜ length (now rec) ≡ 94 ⌝ }
-    ensures { λ r. ⌜ checkOf r ≡ need (entityField (field (now (rec .entry)) 4 11)) 17 also need (ofCurrency currency (field (now (rec .entry)) 4 11)) 203
-        also need (eqb (entity (field (now (rec .entry)) 4 11)) desk) 17 ⌝ }
-{
-    let to = individual::destination(rec);
-    Verdict::Right
-        .need(entity::entity_field(rec, 4, 11), Fault::Format)
-        .need(entity::of_currency(currency, rec, 4, 11), Fault::Currency)
-        .need(to == desk, Fault::Format)
-}
-
 // Whom it is for, by who reads.
-fn destination(terms: Terms, roster: &[bool; Rules::ROSTER], rec: &[u8]) -> Verdict
-    requires { ⌜ length (now rec) ≡ 94 ⌝ }
-    ensures { λ r. ⌜ checkOf r ≡ destination (under terms (now (roster .entry))) (field (now (rec .entry)) 4 11) ⌝ }
+fn addressed(reader: Reader, roster: &[bool; Rules::ROSTER], to: u64) -> Verdict
+    requires { ⌜ to < 500 ⌝ }
+    ensures { λ r. ⌜ ((f : List ℕ) → entity f ≡ to → checkOf r ≡ addressed reader (now (roster .entry)) f) ⌝ }
 {
-    let currency = terms.currency;
-    let reader = terms.reader;
     match reader {
-        Reader::House => member::member_field(currency, roster, rec, 4, 11),
-        Reader::Desk(desk) => own(currency, desk, rec),
+        Reader::House => {
+            let e = to as usize;
+            Verdict::Right.need(roster[e], Fault::Roster)
+        }
+        Reader::Desk(desk) => Verdict::Right.need(to == desk, Fault::Format),
     }
 }
 
-// Positions 2 to 54: the code, whereto, how much and for what.
-pub fn transfer(terms: Terms, roster: &[bool; Rules::ROSTER], rec: &[u8]) -> Verdict
-    requires { ⌜ length (now rec) ≡ 94 ⌝ }
-    ensures { λ r. ⌜ checkOf r ≡ transfer (under terms (now (roster .entry))) (now (rec .entry)) ⌝ }
+// Of an entity field of digits, by the number of the first four: the currency mostly fits, so that it is asked first.
+fn destination(terms: Terms, roster: &[bool; Rules::ROSTER], n: u64) -> Verdict
+    ensures { λ r. ⌜ ((f : List ℕ) → digits f ≡ true → entityValue f ≡ n → checkOf r ≡ destination (under terms (now (roster .entry))) f) ⌝ }
 {
-    Verdict::Right
-        .need(kind::known(kind::code(rec)), Fault::Format)
-        .also(destination(terms, roster, rec))
-        .need(text::reads(rec, 12, 12, b"0"), Fault::Reserved)
-        .need(account_good(rec), Fault::Account)
-        .need(
-            number::digits(rec, 30, 39) & (0 < individual::amount(rec)),
-            Fault::Amount,
-        )
-        .need(!text::blank(rec, 40, 54), Fault::Reference)
+    let currency = terms.currency;
+    let reader = terms.reader;
+    if entity::in_currency(currency, n) {
+        return addressed(reader, roster, n % Currency::DOLLARS_ADD);
+    }
+    if entity::in_currency(Currency::Pesos, n) | entity::in_currency(Currency::Dollars, n) {
+        return Verdict::Wrong(Fault::Currency);
+    }
+    Verdict::Wrong(Fault::Format)
+}
+
+// Positions 2 to 54: the code, whereto, how much and for what.
+fn transfer(terms: Terms, roster: &[bool; Rules::ROSTER], rec: &[u8]) -> Moved
+    requires { ⌜ length (now rec) ≡ 94 ⌝ }
+    ensures { λ r. ⌜ (movedSays r ≡ transfer (under terms (now (roster .entry))) (now (rec .entry))) × HandsMoved (now (rec .entry)) r ⌝ }
+{
+    if !kind::known(kind::code(rec)) {
+        return Moved::Wrong(Fault::Format);
+    }
+    let Numeral::Digits(entity, branch) = word::halves(rec, 4, 11) else {
+        return Moved::Wrong(Fault::Format);
+    };
+    let whereto = destination(terms, roster, entity);
+    if let Verdict::Wrong(fault) = whereto {
+        return Moved::Wrong(fault);
+    }
+    if !text::reads(rec, 12, 12, b"0") {
+        return Moved::Wrong(Fault::Reserved);
+    }
+    if !account_good(rec) {
+        return Moved::Wrong(Fault::Account);
+    }
+    let amount = individual::amount(rec);
+    if amount == 0 {
+        return Moved::Wrong(Fault::Amount);
+    }
+    if text::blank(rec, 40, 54) {
+        return Moved::Wrong(Fault::Reference);
+    }
+    Moved::Good(entity * FOUR_DIGITS + branch, amount)
+}
+
+// Positions 55 to 94, of a record whose transfer is good.
+fn closing(header: &[u8], previous: u64, rec: &[u8], destination: u64, amount: u64) -> Judged
+    requires { ⌜ length (now header) ≡ 94 ⌝ }
+    requires { ⌜ length (now rec) ≡ 94 ⌝ }
+    requires { ⌜ (destination ≡ destinationField (now rec)) × (amount ≡ amountOf (now rec)) ⌝ }
+    ensures { λ r. ⌜ (judgedSays r ≡ closingRules (now (header .entry)) previous (now (rec .entry))) × HandsOn (now (rec .entry)) r ⌝ }
+{
+    if text::blank(rec, 55, 76) {
+        return Judged::Wrong(Fault::Format);
+    }
+    if !information_good(rec) {
+        return Judged::Wrong(Fault::Information);
+    }
+    if !(text::reads(rec, 79, 79, b"0") | text::reads(rec, 79, 79, b"1")) {
+        return Judged::Wrong(Fault::Format);
+    }
+    if !flag_good(rec) {
+        return Judged::Wrong(Fault::Additional);
+    }
+    let Sequence::Number(counter) = individual::counter(rec) else {
+        return Judged::Wrong(Fault::Format);
+    };
+    if !word::same(rec, 80, 87, header, 80, 87) {
+        return Judged::Wrong(Fault::Counter);
+    }
+    if counter <= previous {
+        return Judged::Wrong(Fault::Counter);
+    }
+    Judged::Good(Entry {
+        code: kind::code(rec),
+        destination,
+        amount,
+        counter,
+    })
 }
 
 pub fn judge(
@@ -99,17 +174,13 @@ pub fn judge(
     header: &[u8],
     previous: u64,
     rec: &[u8],
-) -> Verdict
+) -> Judged
     requires { ⌜ length (now header) ≡ 94 ⌝ }
     requires { ⌜ length (now rec) ≡ 94 ⌝ }
-    ensures { λ r. ⌜ checkOf r ≡ individual (under terms (now (roster .entry))) (now (header .entry)) previous (now (rec .entry)) ⌝ }
+    ensures { λ r. ⌜ (judgedSays r ≡ individual (under terms (now (roster .entry))) (now (header .entry)) previous (now (rec .entry))) × HandsOn (now (rec .entry)) r ⌝ }
 {
-    let flagged = text::reads(rec, 79, 79, b"0") | text::reads(rec, 79, 79, b"1");
-    transfer(terms, roster, rec)
-        .need(!text::blank(rec, 55, 76), Fault::Format)
-        .need(information_good(rec), Fault::Information)
-        .need(flagged, Fault::Format)
-        .need(flag_good(rec), Fault::Additional)
-        .need(number::digits(rec, 80, 94), Fault::Format)
-        .need(counter_good(header, previous, rec), Fault::Counter)
+    match transfer(terms, roster, rec) {
+        Moved::Good(destination, amount) => closing(header, previous, rec, destination, amount),
+        Moved::Wrong(fault) => Judged::Wrong(fault),
+    }
 }

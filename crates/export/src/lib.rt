@@ -8,6 +8,7 @@ ghost use Rattle.paper.specs.Listing.{currencyIf, positionsOf};
 ghost use Rattle.listing.specs.Room.{Written};
 ghost use Rattle.export.specs.Spoken.{spokenOf, deliveredOf, notOpened, readOf};
 use desk::Session;
+use desk::rules;
 use listing::Listing;
 use paper::answer::Answer;
 use paper::answer::Fault;
@@ -105,13 +106,13 @@ fn speak_output(output: Output) -> Spoken
 pub extern "C" fn shaydhoqel_read(date: u64, dollars: bool, entities: &[u64], file: &[u8]) -> Spoken
     ensures { λ r. ⌜ readOf date dollars (now (entities .entry)) (now (file .entry)) ≡ record { spoken = r; lent = tt } ⌝ }
 {
-    let opened = Session::open(date, currency(dollars), entities);
+    let opened = rules::open(date, currency(dollars), entities);
     let answer = opened.answer;
     if let Answer::Refused(fault, _) = answer {
         return not_opened(fault);
     }
-    let session = opened.session;
-    let read = session.read(file);
+    let rules = opened.rules;
+    let read = rules::read(rules, file);
     speak(file.len() / Session::RECORD, read)
 }
 

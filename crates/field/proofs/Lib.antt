@@ -1,2 +1,3 @@
 pub mod Arms
 pub mod Numbers
+pub mod Words

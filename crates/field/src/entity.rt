@@ -1,6 +1,7 @@
 // Entity fields: four digits for the entity, four for a branch that is not judged.
 ghost use mathlib.Core.Path.{_≡_};
-ghost use Prim.Native.Nat.{_+_, _<_};
+ghost use mathlib.Core.List.{List};
+ghost use Prim.Native.Nat.{ℕ, _+_, _<_};
 ghost use Rattle.paper.specs.Fields.{field};
 ghost use Rattle.paper.specs.Entities.{entityValue, ofCurrency, entityField, entity, onRoster};
 ghost use Rattle.characters.specs.Part.{HasField};
@@ -16,16 +17,22 @@ fn entity_value(rec: &[u8], first: usize, last: usize) -> u64
     number::number(rec, first, first + 3)
 }
 
+// The number in the four digits for the entity, of this currency.
+pub fn in_currency(currency: Currency, n: u64) -> bool
+    ensures { λ r. ⌜ ((f : List ℕ) → entityValue f ≡ n → r ≡ ofCurrency currency f) ⌝ }
+{
+    match currency {
+        Currency::Pesos => number::within(1, Currency::LAST, n),
+        Currency::Dollars => number::within(Currency::DOLLARS_FIRST, Currency::DOLLARS_LAST, n),
+    }
+}
+
 pub fn of_currency(currency: Currency, rec: &[u8], first: usize, last: usize) -> bool
     requires { ⌜ HasField (now rec) first last ⌝ }
     requires { ⌜ last ≡ first + 7 ⌝ }
     ensures { λ r. ⌜ r ≡ ofCurrency currency (field (now (rec .entry)) first last) ⌝ }
 {
-    let n = entity_value(rec, first, last);
-    match currency {
-        Currency::Pesos => number::within(1, Currency::LAST, n),
-        Currency::Dollars => number::within(Currency::DOLLARS_FIRST, Currency::DOLLARS_LAST, n),
-    }
+    in_currency(currency, entity_value(rec, first, last))
 }
 
 pub fn entity_field(rec: &[u8], first: usize, last: usize) -> bool

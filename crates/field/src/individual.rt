@@ -3,16 +3,52 @@ ghost use mathlib.Core.Path.{_≡_};
 ghost use Prim.Native.Nat.{_<_, _^_};
 ghost use lib.ListN.{length};
 ghost use Rattle.paper.specs.Records.{amountOf, destinationIn, destinationField, senderIn, flaggedIn};
+ghost use Rattle.field.specs.Sequences.{sequenceOf};
 use crate::entity;
 use characters::number;
 use characters::text;
+use characters::word;
+use characters::word::Numeral;
 
-// In cents.
+// One past the largest number of so many digits.
+const TWO_DIGITS: u64 = 100;
+
+const THREE_DIGITS: u64 = 1000;
+
+const FOUR_DIGITS: u64 = 10000;
+
+// Positions 80 to 94: the number in the last seven, where all fifteen are digits.
+pub enum Sequence {
+    Number(u64),
+    Other,
+}
+
+// In cents; nothing where it is not ten digits.
 pub fn amount(rec: &[u8]) -> u64
     requires { ⌜ length (now rec) ≡ 94 ⌝ }
     ensures { λ r. ⌜ (r ≡ amountOf (now (rec .entry))) × (r < 10 ^ 10) ⌝ }
 {
-    number::number(rec, 30, 39)
+    let Numeral::Digits(high, low) = word::halves(rec, 30, 37) else {
+        return 0;
+    };
+    if !number::digits(rec, 38, 39) {
+        return 0;
+    }
+    (high * FOUR_DIGITS + low) * TWO_DIGITS + number::number(rec, 38, 39)
+}
+
+// Of two words that share position 87 the second one's last seven.
+pub fn counter(rec: &[u8]) -> Sequence
+    requires { ⌜ length (now rec) ≡ 94 ⌝ }
+    ensures { λ r. ⌜ r ≡ sequenceOf (now (rec .entry)) ⌝ }
+{
+    if !word::digits(rec, 80, 87) {
+        return Sequence::Other;
+    }
+    let Numeral::Digits(high, low) = word::halves(rec, 87, 94) else {
+        return Sequence::Other;
+    };
+    Sequence::Number(high % THREE_DIGITS * FOUR_DIGITS + low)
 }
 
 // The entity that it is addressed to, at any branch.

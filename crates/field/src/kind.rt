@@ -3,7 +3,6 @@ ghost use mathlib.Core.Path.{_≡_};
 ghost use Prim.Native.Nat.{_≤_};
 ghost use lib.ListN.{length};
 ghost use Rattle.paper.specs.Kinds.{kindOf, codeOf, known, isOrder, takes01, collects, pays, rejects};
-use characters::number;
 use paper::record::Code;
 use paper::record::Kind;
 
@@ -22,15 +21,19 @@ pub fn kind(rec: &[u8]) -> Kind
     }
 }
 
+// 37, 36, 32 or 31.
 pub fn code(rec: &[u8]) -> Code
     requires { ⌜ 3 ≤ length (now rec) ⌝ }
     ensures { λ r. ⌜ r ≡ codeOf (now (rec .entry)) ⌝ }
 {
-    match number::number(rec, 2, 3) {
-        37 => Code::Order,
-        36 => Code::Rejection,
-        32 => Code::Reversal,
-        31 => Code::ReversalRejection,
+    if rec[1] != b'3' {
+        return Code::Unknown;
+    }
+    match rec[2] {
+        b'7' => Code::Order,
+        b'6' => Code::Rejection,
+        b'2' => Code::Reversal,
+        b'1' => Code::ReversalRejection,
         _ => Code::Unknown,
     }
 }

@@ -1,3 +1,4 @@
 pub mod Records
 pub mod Walk
 pub mod Once
+pub mod Running

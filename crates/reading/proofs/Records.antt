@@ -1,31 +1,69 @@
 -- One record: what its characters and its type's place say of the whole.
-use Prim.Native.Nat.{ℕ, _*_}
-use mathlib.Core.Bool.{true}
+use Prim.Native.Nat.{ℕ, _+_, _-_, _*_, _≤_}
+use mathlib.Core.Bool.{true, false}
 use mathlib.Core.List.{List}
-use mathlib.Core.Path.{_≡_}
-use lib.ListN.{take, drop}
+use mathlib.Core.Path.{_≡_, refl, sym, ap, _∙_}
+use native.Mathlib.Omega.{arith}
+use borrow.Author.Tests.{leb-true}
+use lib.Dec.{leb}
+use lib.ListN.{length, take, drop, length-drop, take-append-drop}
+use lib.Seq.{length-take-le, take-length, take-add, take-append-le, drop-append-le}
 use Rattle.paper.specs.declared.record.Before.{Before}
+use Rattle.paper.specs.declared.record.Before.the-variants.{Nothing}
 use Rattle.paper.specs.declared.record.Kind.{Kind}
+use Rattle.paper.specs.declared.record.Kind.the-variants.{FileHeader, BatchHeader, Individual, Additional, BatchControl, FileControl, Other}
 use Rattle.paper.specs.Checks.{Check, fine, wrong, need, _also_}
 use Rattle.paper.specs.Fields.{every, good}
 use Rattle.paper.specs.Kinds.{kindOf, allowed}
 use Rattle.paper.specs.Records.{ReadingRules}
 use Rattle.paper.specs.Reading.{judged, recordAt}
 use Rattle.paper.proofs.Tests.{T-of, of-T}
+use Rattle.paper.proofs.Digits.{every-append}
 use Rattle.paper.proofs.Every.{every-drop, every-take}
+use Rattle.paper.proofs.Exactly.{wrong-not-fine}
 use Rattle.paper.proofs.Accepted.{Follows, follows, file-begins, batch-opens, file-ends, first-individual, its-additional, next-individual, batch-closes}
 use Rattle.state.specs.declared.State.{State}
 use Rattle.state.specs.declared.Step.{Step}
 use Rattle.state.specs.States.{meant, stops, afterRecord, stepped, Preceded, StandsAfter, Arrived, Ready, Steps}
-use Rattle.reading.specs.Taken.{taken, Comes}
+use Rattle.reading.specs.Taken.{taken, Comes, Clean, isEntry}
+
+pub true-not-false : true ≡ false → ⊥
+true-not-false h = let z : _≡_ {A = ℕ} 0 1 = cc in omega arith
 
 -- ---- characters
 
--- where the whole file is good, each record is
-pub clean-record : (file : List ℕ) (place : ℕ) → every good file ≡ true → every good (recordAt file place) ≡ true
+-- a record that ends within the front that is good
+pub front-record : (file : List ℕ) (front place : ℕ) → Clean file front → leb ((place + 1) * 94) front ≡ true → every good (recordAt file place) ≡ true
 unfolding recordAt
-clean-record file place h =
-    of-T (every good (take 94 (drop (place * 94) file))) (every-take good 94 (drop (place * 94) file) (every-drop good (place * 94) file (T-of h)))
+front-record file front place c h =
+    let p = place * 94 in
+    let a = take front file in
+    let ends : (place + 1) * 94 ≤ front = leb-true ((place + 1) * 94) front h in
+    let l : length a ≡ front = length-take-le front file (c .short) in
+    let m : length (drop p a) ≡ front - p = simp (length-drop, l) in
+    let cut : take 94 (drop p file) ≡ take 94 (drop p a) =
+    ap (λ (x : List ℕ). take 94 (drop p x)) (sym (take-append-drop front file))
+    ∙ (ap (take 94) (drop-append-le p a (drop front file) (omega arith)) ∙ take-append-le 94 (drop p a) (drop front file) (omega arith)) in
+    rw cut (of-T (every good (take 94 (drop p a))) (every-take good 94 (drop p a) (every-drop good p a (T-of (c .good)))))
+
+-- ---- the front, one block further
+
+pub nothing-tested : (file : List ℕ) → Clean file 0
+unfolding every
+nothing-tested file = record { short = omega arith; good = refl }
+
+pub block-tested : (file : List ℕ) (front size : ℕ) → front + size ≤ length file → Clean file front → every good (take size (drop front file)) ≡ true → Clean file (front + size)
+block-tested file front size h c e =
+    record {
+      short = h;
+      good = rw (take-add front size file, every-append good (take front file) (take size (drop front file)), c .good) e;
+    }
+
+pub all-tested : (file : List ℕ) (front : ℕ) → Clean file front → every good (drop front file) ≡ true → Clean file (length file)
+all-tested file front c e =
+    let whole : every good file ≡ true =
+    ap (every good) (sym (take-append-drop front file)) ∙ rw (every-append good (take front file) (drop front file), c .good) e in
+    record { short = omega arith; good = rw (take-length file) whole }
 
 -- ---- order
 
@@ -55,6 +93,20 @@ ready {place = place} {st = st} {kind = kind} a told may = record {
 pub comes : {kind : Kind} {rules : ReadingRules} {file : List ℕ} {place : ℕ} {st : State} {r : Step}
     → Steps kind rules file place st r → Comes (stepped rules file place st) file place r
 comes s = record { says = s .says; kept = s .kept }
+
+-- no entry may be the first record
+pub no-first : (b : Before) (kind : Kind) → b ≡ Nothing → isEntry kind ≡ true → allowed b kind ≡ fine → ⊥
+unfolding allowed
+no-first b kind e i h = go kind i (rw e at h)
+  where
+    go : (k : Kind) → isEntry k ≡ true → allowed Nothing k ≡ fine → ⊥
+    go FileHeader j m = true-not-false (sym j)
+    go BatchHeader j m = true-not-false (sym j)
+    go Individual j m = wrong-not-fine m
+    go Additional j m = wrong-not-fine m
+    go BatchControl j m = true-not-false (sym j)
+    go FileControl j m = true-not-false (sym j)
+    go Other j m = true-not-false (sym j)
 
 -- ---- the whole
 

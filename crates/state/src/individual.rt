@@ -5,13 +5,12 @@ ghost use Rattle.state.specs.States.{Ready, Steps};
 use crate::State;
 use crate::Step;
 use crate::flag;
-use characters::number;
 use controls::tally;
+use entries::individual::Judged;
 use field::individual;
 use field::place::record_at;
 use paper::rules::Rules;
 use paper::rules::Terms;
-use verdicts::verdict::Verdict;
 
 pub fn step(
     terms: Terms,
@@ -26,19 +25,20 @@ pub fn step(
     let rec = record_at(file, place);
     let header = record_at(file, state.header);
     match entries::individual::judge(terms, roster, header, state.counter, rec) {
-        Verdict::Right => {
+        Judged::Good(entry) => {
+            let code = entry.code;
             let batch = state.batch;
             let closed = state.closed;
             Step::Next(State {
                 before: flag(individual::flagged(rec)),
                 header: state.header,
                 individual: place,
-                counter: number::number(rec, 88, 94),
+                counter: entry.counter,
                 batches: state.batches,
-                batch: tally::with_individual(batch, rec),
+                batch: tally::with_entry(batch, entry.destination, code, entry.amount),
                 closed: closed,
             })
         }
-        Verdict::Wrong(fault) => Step::Stop(fault),
+        Judged::Wrong(fault) => Step::Stop(fault),
     }
 }

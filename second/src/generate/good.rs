@@ -80,6 +80,14 @@ pub fn file_of(random: &mut Random, records: usize) -> Draft {
     Maker::new(random).finish_at(records)
 }
 
+/// So many batches of one individual record each: header, individual record, control; and two records besides.
+pub fn smallest_batches(random: &mut Random, batches: usize) -> Draft {
+    let mut maker = Maker::new(random);
+    maker.amounts = MODEST;
+    (0..batches).for_each(|_| maker.batch(1));
+    maker.finish()
+}
+
 impl<'r> Maker<'r> {
     pub fn new(random: &'r mut Random) -> Self {
         let entities = some_entities(random);

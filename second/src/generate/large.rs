@@ -2,7 +2,7 @@
 
 use super::case::{refused, Answer, Case};
 use super::draft::{put, put_number, Draft};
-use super::good::{file_of, Amounts, Maker, MODEST};
+use super::good::{file_of, smallest_batches, Amounts, Maker, MODEST};
 use super::random::Random;
 use crate::reading::RECORD;
 use crate::Currency;
@@ -25,7 +25,7 @@ pub fn large_file(random: &mut Random, number: u64) -> Case {
         10 => full(random, one_too_many),
         11 => full(random, |draft| spoil(draft, 0, 2, b'1')),
         12 => one_batch(random),
-        13 => smallest_batches(random),
+        13 => Case::good("smallest batches", &smallest_batches(random, 3_332)),
         14 => Case::with(
             "blanks",
             any_rules(random),
@@ -118,16 +118,6 @@ fn one_batch(random: &mut Random) -> Case {
     maker.amounts = MODEST;
     maker.batch(FULL - 4);
     Case::of("one large batch", &maker.finish(), Some(Ok(FULL)))
-}
-
-/// Header, individual record, control: 3,332 batches, and two records besides.
-fn smallest_batches(random: &mut Random) -> Case {
-    let mut maker = Maker::new(random);
-    maker.amounts = MODEST;
-    for _ in 0..3_332 {
-        maker.batch(1);
-    }
-    Case::of("smallest batches", &maker.finish(), Some(Ok(9_998)))
 }
 
 fn bytes(random: &mut Random, length: usize) -> Case {

@@ -99,6 +99,16 @@ pub fn orders(sender: &str, destination: &str, count: usize) -> Vec<Record> {
         .collect()
 }
 
+/// Orders whose destinations add up to eleven digits, of which the controls keep the last ten. The batch's control stands at 1,003.
+pub fn destinations_over_ten_digits() -> Vec<Record> {
+    let mut records = vec![header("05010001"), batch_header("05010001", "0000001")];
+    records.extend(orders("05010001", "09999999", 1_001));
+    let sums = "0010010009998999000000001001000000000000";
+    records.push(batch_control(sums, "05010001", "0000001"));
+    records.push(file_control(&format!("00000100010100{sums}")));
+    records
+}
+
 /// Case L with another text from this position of a record on.
 pub fn changed(place: usize, from: usize, text: &str) -> Vec<Record> {
     let mut records = listing();

@@ -11,7 +11,7 @@ unfolding withRecord
 returns c =
     let told : tie.After-enum-told = search in
     let read : tie.After-kind = search in
-    rw (← read .kind .ensures, told .enum-told .given .1) (c .counted-individual .ensures)
+    rw (← read .kind .ensures, told .enum-told .given .1) (c .with-individual .ensures)
 
 returns-2 : tie.Need-returns-2
 unfolding withRecord

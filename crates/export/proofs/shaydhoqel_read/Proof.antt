@@ -1,7 +1,7 @@
 use mathlib.Core.Path.{_∙_}
 use borrow.Author.Needs.{needs}
 use Rattle.export.specs.Spoken.{readOf}
-use Rattle.export.proofs.Opened.{said-refused, done-there}
+use Rattle.export.proofs.Opened.{rules-refused, done-by-rules}
 use Rattle.export.proofs.shaydhoqel_read.Statement.{statement}
 use Rattle.export.proofs.shaydhoqel_read.Tie as tie
 
@@ -11,7 +11,7 @@ returns c =
     let wrong : tie.After-answer = search in
     let opened : tie.After-open = search in
     let currency : tie.After-currency = search in
-    said-refused _ _ _ _ _ _ (currency .currency .ensures) (opened .«open» .ensures .0) (wrong .answer .given .1) (c .not-opened .ensures)
+    rules-refused _ _ _ _ _ _ (currency .currency .ensures) (opened .«open» .ensures) (wrong .answer .given .1) (c .not-opened .ensures)
 
 returns-2 : tie.Need-returns-2
 unfolding readOf
@@ -20,7 +20,7 @@ returns-2 c =
     let right : tie.After-enum-told = search in
     let opened : tie.After-open = search in
     let currency : tie.After-currency = search in
-    done-there _ _ _ _ _ _ (currency .currency .ensures) (opened .«open» .ensures .0) (right .enum-told .given .1)
+    done-by-rules _ _ _ _ _ _ (currency .currency .ensures) (opened .«open» .ensures) (right .enum-told .given .1)
     ∙ rw (c .speak .ensures, read .read .ensures)
 
 pub shaydhoqel-read-spec : {M : Type 1} → statement M

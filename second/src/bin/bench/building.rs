@@ -1,6 +1,6 @@
 //! Both buildings from the same trays, and both strippings of the files they give.
 
-use crate::measuring::{median, timed, FILES, RECORDS, ROUNDS, WARM_UP};
+use crate::measuring::{Times, FILES, RECORDS, ROUNDS, WARM_UP};
 use second::day::Opening;
 use second::generate::good::file_of;
 use second::generate::random::Random;
@@ -15,34 +15,18 @@ struct Asked {
     file: Vec<u8>,
 }
 
-#[derive(Default)]
-struct Times {
-    proved: Vec<f64>,
-    second: Vec<f64>,
-}
-
 /// One job of one program, into a buffer.
 type Job = fn(&Asked, &mut [u8]) -> Result<usize, Refusal>;
 
 pub fn run() {
     println!("building and stripping {FILES} files of {RECORDS} records, into a warm buffer; both open a session each time, measured too");
-    let (mut building, mut stripping) = (Times::default(), Times::default());
+    let (mut building, mut stripping) = (Times::new(), Times::new());
     for number in 0..FILES {
         let asked = asked(number);
-        measure(
-            &asked,
-            &asked.file,
-            proved_build,
-            second_build,
-            &mut building,
-        );
-        measure(
-            &asked,
-            &asked.tray,
-            proved_strip,
-            second_strip,
-            &mut stripping,
-        );
+        let by_both = [proved_build, second_build];
+        measure(&asked, &asked.file, by_both, &mut building);
+        let by_both = [proved_strip, second_strip];
+        measure(&asked, &asked.tray, by_both, &mut stripping);
     }
     show("building", building);
     show("stripping", stripping);
@@ -83,29 +67,19 @@ fn asked(number: u64) -> Asked {
     }
 }
 
-fn measure(asked: &Asked, expected: &[u8], by_proved: Job, by_second: Job, times: &mut Times) {
+fn measure(asked: &Asked, expected: &[u8], jobs: [Job; 2], times: &mut Times<2>) {
     let mut out = vec![0; expected.len()];
-    for job in [by_proved, by_second] {
+    for job in jobs {
         out.fill(0);
         assert_eq!(job(asked, &mut out), Ok(expected.len()));
         assert!(out == expected, "both write the same");
     }
-    let mut by_job = |job: Job| timed(|| job(black_box(asked), &mut out).is_ok());
-    for _ in 0..WARM_UP {
-        by_job(by_proved);
-        by_job(by_second);
-    }
-    // Who goes first changes from round to round.
-    for _ in 0..ROUNDS / 2 {
-        times.proved.push(by_job(by_proved));
-        times.second.push(by_job(by_second));
-        times.second.push(by_job(by_second));
-        times.proved.push(by_job(by_proved));
-    }
+    let job = |turn: usize| jobs[turn](black_box(asked), &mut out).is_ok();
+    times.in_turn(WARM_UP, ROUNDS, job);
 }
 
-fn show(name: &str, times: Times) {
-    let (proved, second) = (median(times.proved), median(times.second));
+fn show(name: &str, times: Times<2>) {
+    let [proved, second] = times.medians();
     println!(
         "{name}: proved {proved:.2} us, second {second:.2} us, ratio proved/second {:.2}",
         proved / second

@@ -1,25 +1,12 @@
 //! Both extractings from the same files.
 
-use crate::measuring::{median, timed, FILES, RECORDS, ROUNDS, WARM_UP};
+use crate::addressed::Asked;
+use crate::measuring::{Times, FILES, RECORDS, ROUNDS, WARM_UP};
 use second::day::Opening;
 use second::generate::addressed::{shared_file, Addressed, Share, SEVERAL};
 use second::generate::random::Random;
 use second::proved;
 use std::hint::black_box;
-
-/// One file, and all that is asked of it.
-struct Asked {
-    opening: Opening,
-    entity: u64,
-    file: Vec<u8>,
-}
-
-#[derive(Default)]
-struct Times {
-    extracting: Vec<f64>,
-    reading: Vec<f64>,
-    second: Vec<f64>,
-}
 
 pub fn run() {
     println!("extracting from {FILES} files of {RECORDS} records, into a warm buffer; both open a session each time, measured too");
@@ -29,7 +16,7 @@ pub fn run() {
         ("all records", Share::All),
     ];
     for (name, share) in shares {
-        let mut times = Times::default();
+        let mut times = Times::new();
         let mut bytes = 0;
         for number in 0..FILES {
             let asked = asked(number, share);
@@ -69,36 +56,19 @@ fn length(asked: &Asked) -> usize {
     length
 }
 
-fn measure(asked: &Asked, times: &mut Times) {
-    let mut out = vec![0; asked.file.len()];
-    let lent = &mut out;
-    let by_reading =
-        || timed(|| proved::read(black_box(&asked.opening), black_box(&asked.file)).is_ok());
-    let mut round = |times: &mut Times, proved_first: bool| {
-        // Who goes first changes from round to round.
-        for turn in if proved_first { [0, 1, 2] } else { [2, 1, 0] } {
-            match turn {
-                0 => times
-                    .extracting
-                    .push(timed(|| by_proved(black_box(asked), lent).is_some())),
-                1 => times.reading.push(by_reading()),
-                _ => times
-                    .second
-                    .push(timed(|| by_second(black_box(asked), lent).is_some())),
-            }
-        }
-    };
-    let mut unmeasured = Times::default();
-    (0..WARM_UP).for_each(|_| round(&mut unmeasured, true));
-    for _ in 0..ROUNDS / 2 {
-        round(times, true);
-        round(times, false);
-    }
+fn by_reading(asked: &Asked, _: &mut [u8]) -> Option<usize> {
+    proved::read(&asked.opening, &asked.file).ok()
 }
 
-fn show(name: &str, bytes: usize, times: Times) {
-    let (extracting, second) = (median(times.extracting), median(times.second));
-    let reading = median(times.reading);
+fn measure(asked: &Asked, times: &mut Times<3>) {
+    let mut out = vec![0; asked.file.len()];
+    let jobs = [by_proved, by_reading, by_second];
+    let job = |turn: usize| jobs[turn](black_box(asked), &mut out).is_some();
+    times.in_turn(WARM_UP, ROUNDS, job);
+}
+
+fn show(name: &str, bytes: usize, times: Times<3>) {
+    let [extracting, reading, second] = times.medians();
     println!(
         "{name} ({bytes} bytes): proved {extracting:.2} us, second {second:.2} us, ratio proved/second {:.2}; \
          proved reading alone {reading:.2} us, ratio extracting/reading {:.2}",

@@ -8,21 +8,19 @@ use Rattle.characters.proofs.Ranges.{Run, in-run, apart}
 use Rattle.characters.proofs.byte.barred.Statement.{statement}
 use Rattle.characters.proofs.byte.barred.Tie as tie
 
-abbrev seven : List ℕ
-seven = 34 ∷ 38 ∷ 39 ∷ 91 ∷ 92 ∷ 93 ∷ 94 ∷ []
+abbrev three : List ℕ
+three = 34 ∷ 38 ∷ 39 ∷ []
 
 abbrev Listed : ℕ → Type 0
-Listed b = true ≡ among seven b
+Listed b = true ≡ among three b
 
-runs : Run Listed 34 1 × Run Listed 38 2 × Run Listed 91 4
+runs : Run Listed 34 1 × Run Listed 38 2
 unfolding among
-runs = ((refl, tt), (refl, (refl, tt)), (refl, (refl, (refl, (refl, tt)))))
+runs = ((refl, tt), (refl, (refl, tt)))
 
 pub barred-spec : {M : Type 1} → statement M
 barred-spec =
     tie.close
-    (tie.spec (λ c. apart _ seven (omega (arith, c .before .match .rest))) (λ c. apart _ seven (omega arith))
-    (λ c. apart _ seven (omega arith))
+    (tie.spec (λ c. apart _ three (omega arith)) (λ c. apart _ three (omega arith))
     (λ c. in-run Listed 34 1 (runs .0) _ (omega arith) (omega arith))
-    (λ c. in-run Listed 38 2 (runs .1) _ (omega arith) (omega arith))
-    (λ c. in-run Listed 91 4 (runs .2) _ (omega arith) (omega arith)))
+    (λ c. in-run Listed 38 2 (runs .1) _ (omega arith) (omega arith)))

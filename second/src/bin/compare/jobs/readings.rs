@@ -1,10 +1,10 @@
-//! Both readings on generated files.
+//! Both readings on generated files, and the tuned ones beside them.
 
 use super::job::{Job, Seen};
 use super::showing::show_and_keep;
 use second::day::Opening;
 use second::generate::{generate, Case};
-use second::{proved, read, Refusal};
+use second::{proved, read, read_swept, tuned, Refusal};
 
 impl Job for Case {
     type Answer = Result<usize, Refusal>;
@@ -23,6 +23,18 @@ impl Job for Case {
         Ok(proved::read(&Opening::of(&self.rules), &self.file))
     }
 
+    /// The tuned readings know no opening: where that was refused they are held to what the rules alone give.
+    fn check(&self, _: u64, answer: &Self::Answer) -> Result<(), String> {
+        let ours = match answer {
+            Err(Refusal { place, .. }) if *place == proved::OPENING => {
+                read(&self.rules, &self.file)
+            }
+            _ => *answer,
+        };
+        held("tuned", tuned::read(&self.rules, &self.file), ours)?;
+        held("swept", read_swept(&self.rules, &self.file), ours)
+    }
+
     fn shows(seen: &Seen<Case>, name: &str) -> u64 {
         u64::from(name == "files" || is_named(seen.answer, name))
     }
@@ -33,8 +45,23 @@ impl Job for Case {
         println!("roster {:?}", on_it.collect::<Vec<usize>>());
         println!("second: {ours:?}");
         println!("proved: {theirs:?}");
+        println!("tuned:  {:?}", tuned::read(&self.rules, &self.file));
         println!("meant:  {:?} ({})", self.expected, self.family);
         show_and_keep(&self.file, 94, name);
+    }
+}
+
+/// A reading that decides nothing must say what the straightforward one says.
+fn held(
+    name: &str,
+    said: Result<usize, Refusal>,
+    ours: Result<usize, Refusal>,
+) -> Result<(), String> {
+    match said {
+        said if said == ours => Ok(()),
+        said => Err(format!(
+            "the {name} reading differs: {said:?}, not {ours:?}"
+        )),
     }
 }
 

@@ -1,0 +1,96 @@
+-- The numbers of an individual record, from the words in which they stand.
+use Prim.Native.Nat.{ℕ, _+_, _*_, _%_, _<_}
+use mathlib.Core.Bool.{Bool, true, false, _&&_, and-false}
+use mathlib.Core.List.{List, _++_}
+use mathlib.Core.Path.{_≡_, refl, sym, ap, _∙_}
+use native.Mathlib.Omega.{arith}
+use lib.Dec.{T}
+use lib.ListN.{length, take, drop}
+use lib.Seq.{drop-at}
+use Rattle.paper.specs.Fields.{field, digit, digits, value, number}
+use Rattle.paper.specs.Entities.{entityValue}
+use Rattle.paper.specs.Records.{amountOf}
+use Rattle.paper.proofs.Tests.{T-of, of-T}
+use Rattle.paper.proofs.Digits.{every-append}
+use Rattle.paper.proofs.Every.{every-take, every-drop}
+use Rattle.characters.proofs.Part.{parted, part-length}
+use Rattle.characters.proofs.Value.{a-number, number-joined, first-none, last-none}
+use Rattle.characters.proofs.Eights.{eight-value, last-seven}
+use Rattle.field.specs.declared.individual.Sequence.the-variants.{Number, Other}
+use Rattle.field.specs.Sequences.{sequenceOf, sequenceIf}
+
+-- an entity field of digits: its entity, and entity and branch as one number
+module _ (f : List ℕ) (h : digits f ≡ true) where
+  pub entity-told : entityValue f ≡ value (take 4 f)
+  unfolding entityValue
+  entity-told = sym (a-number (take 4 f) (of-T _ (every-take digit 4 f (T-of h))) refl)
+
+  pub field-told : length f ≡ 8 → value (take 4 f) * 10000 + value (drop 4 f) ≡ number f
+  field-told l = sym (eight-value f l) ∙ a-number f h refl
+
+module _ (r : List ℕ) (l : length r ≡ 94) where
+  ten : field r 30 39 ≡ field r 30 37 ++ field r 38 39
+  ten = parted r 30 37 39 (omega arith) (omega arith) (omega arith)
+
+  pub amount-told : digits (field r 30 37) ≡ true → digits (field r 38 39) ≡ true
+      → (value (take 4 (field r 30 37)) * 10000 + value (drop 4 (field r 30 37))) * 100 + number (field r 38 39) ≡ amountOf r
+  unfolding amountOf
+  amount-told h k =
+      let e = eight-value (field r 30 37) (part-length r 30 37 (omega arith)) in
+      let two : length (field r 38 39) ≡ 2 = part-length r 38 39 (omega arith) in
+      let n = a-number (field r 38 39) k refl in
+      rw (ten, number-joined (field r 30 37) (field r 38 39) h k, e, two, ← n)
+
+  pub amount-first : digits (field r 30 37) ≡ false → 0 ≡ amountOf r
+  unfolding amountOf
+  amount-first h = rw ten (first-none (field r 30 37) (field r 38 39) h)
+
+  pub amount-last : digits (field r 38 39) ≡ false → 0 ≡ amountOf r
+  unfolding amountOf
+  amount-last h = rw ten (last-none (field r 30 37) (field r 38 39) h)
+
+  -- 80-94 in two ways
+  after-sender : field r 80 94 ≡ field r 80 87 ++ field r 88 94
+  after-sender = parted r 80 87 94 (omega arith) (omega arith) (omega arith)
+
+  before-last : field r 80 94 ≡ field r 80 86 ++ field r 87 94
+  before-last = parted r 80 86 94 (omega arith) (omega arith) (omega arith)
+
+  shared : field r 88 94 ≡ drop 1 (field r 87 94)
+  shared =
+      sym (ap (drop 1) (parted r 87 87 94 (omega arith) (omega arith) (omega arith))
+      ∙ drop-at (field r 87 87) (field r 88 94) 1 (part-length r 87 87 (omega arith)))
+
+  pub sequence-told : digits (field r 80 87) ≡ true → digits (field r 87 94) ≡ true
+      → Number (value (take 4 (field r 87 94)) % 1000 * 10000 + value (drop 4 (field r 87 94))) ≡ sequenceOf r
+  unfolding sequenceOf sequenceIf
+  sequence-told h k =
+      let seven : digits (drop 1 (field r 87 94)) ≡ true = of-T _ (every-drop digit 1 (field r 87 94) (T-of k)) in
+      let all : digits (field r 80 94) ≡ true = rw (after-sender, every-append digit (field r 80 87) (field r 88 94), h, shared) seven in
+      rw (all, shared, ← a-number (drop 1 (field r 87 94)) seven refl, last-seven (field r 87 94) (part-length r 87 94 (omega arith)) (T-of k))
+
+  pub sequence-first : digits (field r 80 87) ≡ false → Other ≡ sequenceOf r
+  unfolding sequenceOf sequenceIf
+  sequence-first h = rw (after-sender, every-append digit (field r 80 87) (field r 88 94), h)
+
+  pub sequence-last : digits (field r 87 94) ≡ false → Other ≡ sequenceOf r
+  unfolding sequenceOf sequenceIf
+  sequence-last h = rw (before-last, every-append digit (field r 80 86) (field r 87 94), h, and-false (digits (field r 80 86)))
+
+-- what the number tells
+module _ (r : List ℕ) where
+  pub sequence-digits : {n : ℕ} → sequenceOf r ≡ Number n → (digits (field r 80 94) ≡ true) × (number (field r 88 94) ≡ n)
+  unfolding sequenceOf sequenceIf
+  sequence-digits {n} e = go (digits (field r 80 94)) refl e
+    where
+      go : (d : Bool) → digits (field r 80 94) ≡ d → sequenceIf d r ≡ Number n → (digits (field r 80 94) ≡ true) × (number (field r 88 94) ≡ n)
+      go true q h = (q, cc)
+      go false q h = let z : _≡_ {A = ℕ} 0 1 = cc in absurd (omega arith)
+
+  pub sequence-other : sequenceOf r ≡ Other → digits (field r 80 94) ≡ false
+  unfolding sequenceOf sequenceIf
+  sequence-other e = go (digits (field r 80 94)) refl e
+    where
+      go : (d : Bool) → digits (field r 80 94) ≡ d → sequenceIf d r ≡ Other → digits (field r 80 94) ≡ false
+      go true q h = let z : _≡_ {A = ℕ} 0 1 = cc in absurd (omega arith)
+      go false q h = q

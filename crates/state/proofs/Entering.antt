@@ -1,0 +1,33 @@
+-- What a batch counts of an individual record, by the numbers that its judge hands on.
+use Prim.Native.Nat.{ℕ, _+_, _^_, _<_}
+use mathlib.Core.Bool.{cond}
+use mathlib.Core.List.{List}
+use mathlib.Core.Path.{_≡_}
+use native.Mathlib.Omega.{arith}
+use lib.ListN.{length, length-take, length-drop}
+use Rattle.paper.specs.declared.record.Tally.{Tally}
+use Rattle.paper.specs.Controls.{withIndividual}
+use Rattle.paper.specs.Fields.{field}
+use Rattle.paper.specs.Kinds.{collects, pays}
+use Rattle.paper.specs.Records.{amountOf}
+use Rattle.paper.proofs.Digits.{number-bound}
+use Rattle.entries.specs.declared.individual.Entry.{Entry}
+use Rattle.entries.specs.Judging.{entryOf}
+
+module _ (r : List ℕ) (entry : Entry) (is : entry ≡ entryOf r) where
+  pub entry-small : length r ≡ 94 → (entry .destination < 10 ^ 8) × (entry .amount < 10 ^ 10)
+  unfolding entryOf amountOf
+  entry-small l =
+      rw is (
+        number-bound 8 (field r 4 11) (simp (length-take, length-drop) (omega arith)),
+        number-bound 10 (field r 30 39) (simp (length-take, length-drop) (omega arith)),
+      )
+
+  pub entered : (tally : Tally) → record {
+    records = tally .records + 1;
+    destinations = tally .destinations + entry .destination;
+    debits = tally .debits + cond (collects (entry .code)) (entry .amount) 0;
+    credits = tally .credits + cond (pays (entry .code)) (entry .amount) 0;
+  } ≡ withIndividual tally r
+  unfolding entryOf withIndividual
+  entered tally = rw is
