@@ -6,14 +6,15 @@ use mathlib.Core.Path.{_≡_, refl, sym, ap, ap₂, _∙_}
 use native.Mathlib.Nat.{add-zero, add-suc}
 use native.Mathlib.Omega.{arith}
 use borrow.Author.Tests.{eqb-true, eqb-false, leb-true, leb-false, eq-eqb, ne-eqb, le-leb}
-use lib.Bits.{bitAnd, and-block, and-high, and-le-l}
+use lib.Bits.{bitAnd, bitOr, and-block, and-high, and-le-l, or-self}
 use lib.Dec.{T, eqb, leb}
 use lib.ListN.{length, take, drop, getD, replicate, length-take, length-drop}
 use lib.Seq.{drop-cons, getD-drop}
-use Rattle.paper.specs.Fields.{field, every, digit, digits, value, same}
-use Rattle.paper.proofs.Tests.{and-l, and-r, T-of}
-use Rattle.paper.proofs.Digits.{digit-range}
+use Rattle.paper.specs.Fields.{field, every, digit, digits, blank, value, same}
+use Rattle.paper.proofs.Tests.{and-l, and-r, T-of, of-T}
+use Rattle.paper.proofs.Digits.{digit-range, every-l, every-r}
 use Rattle.characters.specs.Part.{HasField}
+use Rattle.characters.proofs.Part.{parted}
 use Rattle.characters.specs.Words.{numeralIf, numeralOf, packed, Packs}
 use Rattle.characters.specs.declared.word.Numeral.the-variants.{Digits, Other}
 
@@ -26,6 +27,9 @@ highs = 0xF0F0_F0F0_F0F0_F0F0
 
 abbrev pub sixes : ℕ
 sixes = 0x0606_0606_0606_0606
+
+abbrev pub blanks : ℕ
+blanks = 0x2020_2020_2020_2020
 
 -- the lowest byte of two numbers, and the rest
 module _ (x b y c : ℕ) (h : b < 256) (k : c < 256) where
@@ -108,6 +112,35 @@ compared (b ∷ f) (c ∷ g) h k e =
 
 pub packs-same : {f g : List ℕ} {m n : ℕ} → Packs f m → Packs g n → eqb m n ≡ same f g
 packs-same {f} {g} p q = rw (p .whole, q .whole) (compared f g (p .bytes) (q .bytes) (p .eight ∙ sym (q .eight)))
+
+-- ---- blanks
+
+packed-blanks : (f : List ℕ) → T (blank f) → packed f ≡ each 32 f
+unfolding packed every
+packed-blanks [] t = refl
+packed-blanks (b ∷ f) t =
+    let e : 32 ≡ b = eqb-true 32 b (of-T (eqb 32 b) (and-l (eqb 32 b) (blank f) t)) in
+    let rest = packed-blanks f (and-r (eqb 32 b) (blank f) t) in omega arith
+
+packs-blanks : {f : List ℕ} {n : ℕ} → Packs f n → T (blank f) → n ≡ blanks
+unfolding packed
+packs-blanks {f} p t = p .whole ∙ (rw (p .eight) at (packed-blanks f t))
+
+-- a field has a text where its first eight bytes or its last eight have one
+module _ (r : List ℕ) (first last : ℕ) (h : HasField r first last) (k : first + 7 ≤ last) where
+  pub text-at-end : {front back : ℕ} → Packs (field r first (first + 7)) front → Packs (field r (last - 7) last) back
+      → (bitOr front back ≡ blanks → ⊥) → false ≡ blank (field r first last)
+  text-at-end p q o = go (blank (field r first last)) refl
+    where
+      go : (b : Bool) → blank (field r first last) ≡ b → false ≡ b
+      go true e =
+          let at : last - 8 + 1 ≡ last - 7 = omega arith in
+          let begins = parted r first (first + 7) last (h .0) (omega arith) k in
+          let ends = parted r first (last - 8) last (h .0) (omega arith) (omega arith) in
+          let first-blank = packs-blanks p (every-l (eqb 32) (field r first (first + 7)) (field r (first + 7 + 1) last) (rw begins at (T-of e))) in
+          let last-blank = packs-blanks q (rw at at (every-r (eqb 32) (field r first (last - 8)) (field r (last - 8 + 1) last) (rw ends at (T-of e)))) in
+          absurd (o (rw (first-blank, last-blank) (or-self blanks)))
+      go false e = refl
 
 -- n bytes of a record, one by one
 abbrev pub listed : List ℕ → ℕ → ℕ → ℕ → List ℕ

@@ -1,10 +1,11 @@
 // Eight positions at once: whether they are digits, and the numbers that they spell.
 ghost use mathlib.Core.Path.{_≡_};
 ghost use mathlib.Core.List.{List};
-ghost use Prim.Native.Nat.{ℕ, _+_, _<_};
-ghost use Rattle.paper.specs.Fields.{field, digits, same};
+ghost use Prim.Native.Nat.{ℕ, _+_, _≤_, _<_};
+ghost use Rattle.paper.specs.Fields.{field, digits, blank, same};
 ghost use Rattle.characters.specs.Part.{HasField};
 ghost use Rattle.characters.specs.Words.{numeralOf, Packs};
+use crate::text;
 
 // Eight times the digit 0.
 const ZEROS: u64 = 0x3030_3030_3030_3030;
@@ -17,6 +18,9 @@ const SIXES: u64 = 0x0606_0606_0606_0606;
 
 // Every other byte, from the lowest.
 const PAIRS: u64 = 0x00FF_00FF_00FF_00FF;
+
+// Eight blanks.
+const BLANKS: u64 = 0x2020_2020_2020_2020;
 
 // Eight digits: the numbers of the first four and of the last four. Or something else.
 pub enum Numeral {
@@ -89,4 +93,18 @@ pub fn same(rec: &[u8], first: usize, last: usize, other: &[u8], from: usize, to
     ensures { λ r. ⌜ r ≡ same (field (now (rec .entry)) first last) (field (now (other .entry)) from to) ⌝ }
 {
     word(rec, first, last) == word(other, from, to)
+}
+
+// A field of eight positions or more. A text mostly shows at one end: then nothing between is looked at, and nothing has to be foretold.
+pub fn blank(rec: &[u8], first: usize, last: usize) -> bool
+    requires { ⌜ HasField (now rec) first last ⌝ }
+    requires { ⌜ first + 7 ≤ last ⌝ }
+    ensures { λ r. ⌜ r ≡ blank (field (now (rec .entry)) first last) ⌝ }
+{
+    let front = word(rec, first, first + 7);
+    let back = word(rec, last - 7, last);
+    if front | back != BLANKS {
+        return false;
+    }
+    text::blank(rec, first, last)
 }

@@ -3,12 +3,10 @@ ghost use mathlib.Core.Path.{_≡_};
 ghost use mathlib.Core.Bool.{cond};
 ghost use Prim.Native.Nat.{_+_, _^_, _≤_, _<_};
 ghost use lib.ListN.{length};
-ghost use Rattle.paper.specs.Kinds.{collects, pays};
 ghost use Rattle.paper.specs.Controls.{plus, withIndividual, withAdditional};
 ghost use Rattle.controls.specs.Bounds.{Below};
 use field::individual;
 use field::kind;
-use paper::record::Code;
 use paper::record::Tally;
 
 pub const NONE: Tally = Tally {
@@ -28,25 +26,27 @@ fn on_side(counts: bool, amount: u64) -> u64
     0
 }
 
-// One individual record more, by its field 4-11, its code and its amount.
-pub fn with_entry(tally: Tally, destination: u64, code: Code, amount: u64) -> Tally
+// One individual record more, by its field 4-11 and its amount, which stands on one side: so no branch goes by the code.
+pub fn with_entry(tally: Tally, destination: u64, debit: bool, amount: u64) -> Tally
     requires { ⌜ (destination < 10 ^ 8) × (amount < 10 ^ 10) ⌝ }
     requires { ⌜ Below (10 ^ 18) tally ⌝ }
     ensures { λ r. ⌜ r ≡ record {
       records = tally .records + 1;
       destinations = tally .destinations + destination;
-      debits = tally .debits + cond (collects code) amount 0;
-      credits = tally .credits + cond (pays code) amount 0;
+      debits = tally .debits + cond debit amount 0;
+      credits = tally .credits + cond debit 0 amount;
     } ⌝ }
 {
+    let debited = on_side(debit, amount);
     Tally {
         records: tally.records + 1,
         destinations: tally.destinations + destination,
-        debits: tally.debits + on_side(kind::collects(code), amount),
-        credits: tally.credits + on_side(kind::pays(code), amount),
+        debits: tally.debits + debited,
+        credits: tally.credits + (amount - debited),
     }
 }
 
+// What is no code of the paper's counts on neither side.
 pub fn with_individual(tally: Tally, rec: &[u8]) -> Tally
     requires { ⌜ length (now rec) ≡ 94 ⌝ }
     requires { ⌜ Below (10 ^ 18) tally ⌝ }
@@ -54,8 +54,8 @@ pub fn with_individual(tally: Tally, rec: &[u8]) -> Tally
 {
     let destination = individual::destination_field(rec);
     let code = kind::code(rec);
-    let amount = individual::amount(rec);
-    with_entry(tally, destination, code, amount)
+    let amount = on_side(kind::known(code), individual::amount(rec));
+    with_entry(tally, destination, kind::collects(code), amount)
 }
 
 pub fn with_additional(tally: Tally) -> Tally

@@ -12,9 +12,10 @@ use Rattle.paper.specs.Checks.{Check, fine, wrong, need, _also_}
 use Rattle.paper.specs.Entities.{ofCurrency, entityField}
 use Rattle.paper.specs.Fields.{field, digits, blank, is, same, number}
 use Rattle.paper.specs.Kinds.{codeOf, known}
-use Rattle.paper.specs.Records.{ReadingRules, accountGood, amountOf, informationGood, flagGood, counterGood, addressed, destination, transfer, individual}
+use Rattle.paper.specs.Records.{ReadingRules, accountGood, amountOf, flaggedIn, informationGood, flagGood, counterGood, addressed, destination, transfer, individual}
+use Rattle.paper.proofs.Exactly.{wrong-not-fine}
 use Rattle.characters.proofs.Value.{no-number}
-use Rattle.entries.specs.Judging.{closingRules}
+use Rattle.entries.specs.Judging.{flagRules, closingRules}
 
 -- ---- whereto: digits, then the currency and who reads
 
@@ -88,6 +89,30 @@ module _ (rules : ReadingRules) (r : List ℕ) where
             unfolding transfer need _also_
             transfer-good h = rw (k, d, z, a, some-amount r m, h)
 
+-- ---- the flag: 1 is asked for first
+
+module _ (r : List ℕ) where
+  pub flag-so : flaggedIn r ≡ true → fine ≡ flagRules r
+  unfolding flagRules flagGood need _also_
+  flag-so h = rw (h, or-true (is (field r 79 79) "0"))
+
+  pub no-flag : flaggedIn r ≡ false → is (field r 79 79) "0" ≡ false → wrong 17 ≡ flagRules r
+  unfolding flagRules need _also_
+  no-flag h e = rw (e, h)
+
+  pub flag-zero : is (field r 79 79) "0" ≡ true → need (flagGood r) 25 ≡ flagRules r
+  unfolding flagRules need _also_
+  flag-zero e = rw e
+
+  flag-fine : flagRules r ≡ fine → ((is (field r 79 79) "0" || is (field r 79 79) "1") ≡ true) × (flagGood r ≡ true)
+  unfolding flagRules need _also_
+  flag-fine = go (is (field r 79 79) "0" || is (field r 79 79) "1") (flagGood r)
+    where
+      go : (o f : Bool) → (need o 17 also need f 25) ≡ fine → (o ≡ true) × (f ≡ true)
+      go true true m = (refl, refl)
+      go true false m = absurd (wrong-not-fine m)
+      go false f m = absurd (wrong-not-fine m)
+
 -- ---- positions 55 to 94
 
 module _ (header : List ℕ) (previous : ℕ) (r : List ℕ) where
@@ -101,33 +126,34 @@ module _ (header : List ℕ) (previous : ℕ) (r : List ℕ) where
     information-wrong h = rw (b, h)
 
     module _ (i : informationGood r ≡ true) where
-      pub mark-wrong : (is (field r 79 79) "0" || is (field r 79 79) "1") ≡ false → wrong 17 ≡ closingRules header previous r
-      unfolding closingRules need _also_
-      mark-wrong h = rw (b, i, h)
+      pub flag-wrong : {n : ℕ} → flagRules r ≡ wrong n → wrong n ≡ closingRules header previous r
+      unfolding flagRules closingRules need _also_
+      flag-wrong {n} = go (is (field r 79 79) "0" || is (field r 79 79) "1") (flagGood r) refl refl
+        where
+          go : (o f : Bool) → (is (field r 79 79) "0" || is (field r 79 79) "1") ≡ o → flagGood r ≡ f → (need o 17 also need f 25) ≡ wrong n
+              → wrong n ≡ closingRules header previous r
+          go false f e d m = sym m ∙ rw (b, i, e)
+          go true false e d m = sym m ∙ rw (b, i, e, d)
+          go true true e d m = absurd (wrong-not-fine (sym m))
 
-      module _ (o : (is (field r 79 79) "0" || is (field r 79 79) "1") ≡ true) where
-        pub flag-wrong : flagGood r ≡ false → wrong 25 ≡ closingRules header previous r
+      module _ (m : flagRules r ≡ fine) where
+        pub sequence-wrong : digits (field r 80 94) ≡ false → wrong 17 ≡ closingRules header previous r
         unfolding closingRules need _also_
-        flag-wrong h = rw (b, i, o, h)
+        sequence-wrong h = let f = flag-fine r m in rw (b, i, f .0, f .1, h)
 
-        module _ (f : flagGood r ≡ true) where
-          pub sequence-wrong : digits (field r 80 94) ≡ false → wrong 17 ≡ closingRules header previous r
-          unfolding closingRules need _also_
-          sequence-wrong h = rw (b, i, o, f, h)
+        module _ (d : digits (field r 80 94) ≡ true) where
+          pub sender-wrong : same (field r 80 87) (field header 80 87) ≡ false → wrong 27 ≡ closingRules header previous r
+          unfolding closingRules counterGood need _also_
+          sender-wrong h = let f = flag-fine r m in rw (b, i, f .0, f .1, d, h)
 
-          module _ (d : digits (field r 80 94) ≡ true) where
-            pub sender-wrong : same (field r 80 87) (field header 80 87) ≡ false → wrong 27 ≡ closingRules header previous r
+          module _ (s : same (field r 80 87) (field header 80 87) ≡ true) where
+            pub counter-wrong : ltb previous (number (field r 88 94)) ≡ false → wrong 27 ≡ closingRules header previous r
             unfolding closingRules counterGood need _also_
-            sender-wrong h = rw (b, i, o, f, d, h)
+            counter-wrong h = let f = flag-fine r m in rw (b, i, f .0, f .1, d, s, h)
 
-            module _ (s : same (field r 80 87) (field header 80 87) ≡ true) where
-              pub counter-wrong : ltb previous (number (field r 88 94)) ≡ false → wrong 27 ≡ closingRules header previous r
-              unfolding closingRules counterGood need _also_
-              counter-wrong h = rw (b, i, o, f, d, s, h)
-
-              pub closing-good : ltb previous (number (field r 88 94)) ≡ true → fine ≡ closingRules header previous r
-              unfolding closingRules counterGood need _also_
-              closing-good h = rw (b, i, o, f, d, s, h)
+            pub closing-good : ltb previous (number (field r 88 94)) ≡ true → fine ≡ closingRules header previous r
+            unfolding closingRules counterGood need _also_
+            closing-good h = let f = flag-fine r m in rw (b, i, f .0, f .1, d, s, h)
 
 -- ---- the whole
 
@@ -139,3 +165,11 @@ module _ (rules : ReadingRules) (header : List ℕ) (previous : ℕ) (r : List �
   pub stops : {n : ℕ} → transfer rules r ≡ wrong n → wrong n ≡ individual rules header previous r
   unfolding individual _also_
   stops h = rw h
+
+  -- a good one has a code of the paper's
+  pub code-known : individual rules header previous r ≡ fine → known (codeOf r) ≡ true
+  code-known h = go (known (codeOf r)) refl
+    where
+      go : (k : Bool) → known (codeOf r) ≡ k → k ≡ true
+      go true e = refl
+      go false e = absurd (wrong-not-fine (stops (sym (code-wrong rules r e)) ∙ h))

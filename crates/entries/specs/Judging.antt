@@ -36,6 +36,10 @@ unfoldable pub HandsMoved : List ℕ → Moved → Type 0
 HandsMoved r (moved.Good destination amount) = (destination ≡ destinationField r) × (amount ≡ amountOf r)
 HandsMoved r (moved.Wrong fault) = Unit {0}
 
+-- those of position 79
+unfoldable pub flagRules : List ℕ → Check
+flagRules r = need (is (field r 79 79) "0" || is (field r 79 79) "1") 17 also need (flagGood r) 25
+
 -- the rules from position 55 on
 unfoldable pub closingRules : List ℕ → ℕ → List ℕ → Check
 closingRules header previous r =

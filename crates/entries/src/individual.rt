@@ -8,7 +8,7 @@ ghost use Rattle.paper.specs.Entities.{entityValue, entity};
 ghost use Rattle.paper.specs.Fields.{digits};
 ghost use Rattle.paper.specs.Records.{amountOf, destinationField, accountGood, informationGood, flagGood, addressed, destination, transfer, individual};
 ghost use Rattle.verdicts.specs.Verdicts.{checkOf, under};
-ghost use Rattle.entries.specs.Judging.{movedSays, HandsMoved, judgedSays, HandsOn, closingRules};
+ghost use Rattle.entries.specs.Judging.{movedSays, HandsMoved, judgedSays, HandsOn, flagRules, closingRules};
 use characters::number;
 use characters::text;
 use characters::word;
@@ -126,10 +126,24 @@ fn transfer(terms: Terms, roster: &[bool; Rules::ROSTER], rec: &[u8]) -> Moved
     if amount == 0 {
         return Moved::Wrong(Fault::Amount);
     }
-    if text::blank(rec, 40, 54) {
+    if word::blank(rec, 40, 54) {
         return Moved::Wrong(Fault::Reference);
     }
     Moved::Good(entity * FOUR_DIGITS + branch, amount)
+}
+
+// 1 goes with every code: asked before the code, it leaves one thing to foretell, whether an additional follows.
+fn flag(rec: &[u8]) -> Verdict
+    requires { ⌜ length (now rec) ≡ 94 ⌝ }
+    ensures { λ r. ⌜ checkOf r ≡ flagRules (now (rec .entry)) ⌝ }
+{
+    if individual::flagged(rec) {
+        return Verdict::Right;
+    }
+    if !text::reads(rec, 79, 79, b"0") {
+        return Verdict::Wrong(Fault::Format);
+    }
+    Verdict::Right.need(flag_good(rec), Fault::Additional)
 }
 
 // Positions 55 to 94, of a record whose transfer is good.
@@ -139,17 +153,15 @@ fn closing(header: &[u8], previous: u64, rec: &[u8], destination: u64, amount: u
     requires { ⌜ (destination ≡ destinationField (now rec)) × (amount ≡ amountOf (now rec)) ⌝ }
     ensures { λ r. ⌜ (judgedSays r ≡ closingRules (now (header .entry)) previous (now (rec .entry))) × HandsOn (now (rec .entry)) r ⌝ }
 {
-    if text::blank(rec, 55, 76) {
+    if word::blank(rec, 55, 76) {
         return Judged::Wrong(Fault::Format);
     }
     if !information_good(rec) {
         return Judged::Wrong(Fault::Information);
     }
-    if !(text::reads(rec, 79, 79, b"0") | text::reads(rec, 79, 79, b"1")) {
-        return Judged::Wrong(Fault::Format);
-    }
-    if !flag_good(rec) {
-        return Judged::Wrong(Fault::Additional);
+    let verdict = flag(rec);
+    if let Verdict::Wrong(fault) = verdict {
+        return Judged::Wrong(fault);
     }
     let Sequence::Number(counter) = individual::counter(rec) else {
         return Judged::Wrong(Fault::Format);

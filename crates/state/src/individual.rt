@@ -8,6 +8,7 @@ use crate::flag;
 use controls::tally;
 use entries::individual::Judged;
 use field::individual;
+use field::kind;
 use field::place::record_at;
 use paper::rules::Rules;
 use paper::rules::Terms;
@@ -35,7 +36,12 @@ pub fn step(
                 individual: place,
                 counter: entry.counter,
                 batches: state.batches,
-                batch: tally::with_entry(batch, entry.destination, code, entry.amount),
+                batch: tally::with_entry(
+                    batch,
+                    entry.destination,
+                    kind::collects(code),
+                    entry.amount,
+                ),
                 closed: closed,
             })
         }

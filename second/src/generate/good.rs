@@ -80,6 +80,14 @@ pub fn file_of(random: &mut Random, records: usize) -> Draft {
     Maker::new(random).finish_at(records)
 }
 
+/// Batches of twenty orders without additional, in at most so many records.
+pub fn orders(random: &mut Random, records: usize) -> Draft {
+    let mut maker = Maker::new(random);
+    maker.amounts = MODEST;
+    (0..(records - 2) / 22).for_each(|_| maker.batch_of_orders(20));
+    maker.finish()
+}
+
 /// So many batches of one individual record each: header, individual record, control; and two records besides.
 pub fn smallest_batches(random: &mut Random, batches: usize) -> Draft {
     let mut maker = Maker::new(random);

@@ -4,6 +4,7 @@ use std::process::ExitCode;
 
 mod addressed;
 mod building;
+mod contents;
 mod country;
 mod days;
 mod extracting;
@@ -38,6 +39,7 @@ fn run_all() {
     building::run();
     receiving::run();
     worst::run();
+    contents::run();
     queue::run();
     country::run();
 }

@@ -1,11 +1,14 @@
+use mathlib.Core.Bool.{true}
 use mathlib.Core.Path.{_≡_, refl, sym, ap, _∙_}
 use native.Mathlib.Omega.{arith}
 use borrow.Author.Needs.{needs}
 use Rattle.paper.specs.Fields.{field, number}
+use Rattle.paper.specs.Kinds.{known}
 use Rattle.paper.specs.Reading.{fields, beforeNext, lastIndividual, counted}
 use Rattle.controls.proofs.Bounds.{below-individual}
 use Rattle.entries.specs.declared.individual.Entry.{Entry}
 use Rattle.entries.specs.Judging.{judgedSays, HandsOn, entryOf}
+use Rattle.entries.proofs.Chains.{code-known}
 use Rattle.state.specs.States.{meant, Kept, Held}
 use Rattle.state.proofs.Steps.{goes-on, stops-at, standing-flagged, room-next, closed-stays}
 use Rattle.state.proofs.Entering.{entry-small, entered}
@@ -20,6 +23,12 @@ handed c = let verdict : tie.After-judge = search in rw (c .entry .given .1) at 
 numbered : (c : tie.After-entry) → let rec : tie.After-record-at = search in c .entry .given .0 .0 .counter ≡ number (field (rec .record-at .result .now) 88 94)
 unfolding entryOf
 numbered c = ap (λ (e : Entry). e .counter) (handed c)
+
+known-code : (c : tie.After-entry) → known (c .entry .given .0 .0 .code) ≡ true
+unfolding judgedSays entryOf
+known-code c =
+    let verdict : tie.After-judge = search in
+    ap known (ap (λ (e : Entry). e .code) (handed c)) ∙ code-known _ _ _ _ (sym (verdict .judge .ensures .0) ∙ ap judgedSays (c .entry .given .1))
 
 with-entry-requires : tie.Need-with-entry-requires
 with-entry-requires c κs =
@@ -38,7 +47,8 @@ returns c =
     let header : tie.After-record-at2 = search in
     let rec : tie.After-record-at = search in
     let start : tie.Start = search in
-    let counts = c .with-entry .ensures ∙ entered _ _ (handed good) (start .args .state .batch) in
+    let side : tie.After-collects = search in
+    let counts = rw (side .collects .ensures) at (c .with-entry .ensures) ∙ entered _ _ (handed good) (known-code good) (start .args .state .batch) in
     goes-on _ (start .pre)
     (simp (sym (rec .record-at .ensures .0), sym (header .record-at2 .ensures .0), sym (verdict .judge .ensures .0), good .entry .given .1))
     (simp (counts, numbered good, at-flag .flag .ensures, at-flagged .flagged .ensures, rec .record-at .ensures .0)) (
@@ -62,5 +72,5 @@ step-spec =
     tie.close
     (tie.spec
     (λ c κs. search needs) (λ c κs. search needs) (λ c κs. search needs) (λ c. search needs)
-    (λ c κs. search needs) (λ c κs. search needs) with-entry-requires (λ c. search needs)
+    (λ c κs. search needs) (λ c κs. search needs) (λ c κs. search needs) with-entry-requires (λ c. search needs)
     returns returns-2)
