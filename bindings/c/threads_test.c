@@ -34,6 +34,13 @@ static uint8_t tray[9997 * SHAYDHOQEL_TRAY_RECORD], many_tray[6664 * SHAYDHOQEL_
 static uint8_t file[SHAYDHOQEL_FILE_LIMIT], many[SHAYDHOQEL_FILE_LIMIT], files[FILES * SHAYDHOQEL_FILE_LIMIT];
 static size_t many_length;
 
+/* Of many batches, with a first number above the others that leaves the remainder of the last: all numbers have to be looked at. And its
+   extract. */
+static uint8_t fallen[SHAYDHOQEL_FILE_LIMIT], fallen_handed[SHAYDHOQEL_FILE_LIMIT];
+#define MANY 3332
+#define FIRST_NUMBER (2 * SHAYDHOQEL_RECORD + 87)
+#define REMAINDERS 65536
+
 /* An extract of rejections, from a tray of as many as can be, every other with a text of its own; and a motive list. */
 static uint8_t rejected[9997 * SHAYDHOQEL_TRAY_RECORD], returned[SHAYDHOQEL_FILE_LIMIT], motives[SHAYDHOQEL_MOTIVES];
 static uint64_t ends[FILES];
@@ -96,12 +103,20 @@ static uint64_t place_of(size_t i) {
     return faults[i].number == SHAYDHOQEL_REFUSED_ADDITIONAL ? FAULTY + 1 : FAULTY;
 }
 
+/* The first individual of a file of so many batches gets that number. */
+static void put_fall(uint8_t *changed, int batches) {
+    char number[8];
+    snprintf(number, sizeof number, "%07d", REMAINDERS + batches);
+    memcpy(changed + FIRST_NUMBER, number, 7);
+}
+
 /* ---- the jobs: every call with its answers, in one number */
 
 static uint64_t job_read(struct lent *lent) {
     uint64_t sum = 0;
     heard(&sum, shaydhoqel_read(OPENING, file, sizeof file), 0, RECORDS);
     heard(&sum, shaydhoqel_read(OPENING, many, many_length), 0, many_length / SHAYDHOQEL_RECORD);
+    heard(&sum, shaydhoqel_read(OPENING, fallen, many_length), 0, many_length / SHAYDHOQEL_RECORD);
     heard(&sum, shaydhoqel_read(OPENING, files, sizeof file + 1), SHAYDHOQEL_REFUSED_LENGTH, 0);
     heard(&sum, shaydhoqel_read(OPENING, file, sizeof file - SHAYDHOQEL_RECORD), SHAYDHOQEL_REFUSED_FORMAT, 9999);
     heard(&sum, shaydhoqel_read(250630, true, members, 3, file, sizeof file), SHAYDHOQEL_REFUSED_CURRENCY, 0);
@@ -123,6 +138,9 @@ static uint64_t job_day(struct lent *lent) {
         REQUIRE(lent->answers[i] == 0);
     }
     REQUIRE(lent->figures[SHAYDHOQEL_RECEIVED * SHAYDHOQEL_ENTITIES + 402] == FILES * 9996);
+    const uint64_t end = many_length;
+    heard(&sum, shaydhoqel_day(OPENING, &end, 1, fallen, many_length, lent->answers, 2, NULL, 0), 0, 0);
+    REQUIRE(lent->answers[0] == 0 && lent->answers[1] == 0);
     for (size_t i = 0; i < FAULTS; i++) {
         put_fault(i, lent);
         heard(&sum, shaydhoqel_day(OPENING, ends, 1, lent->changed, sizeof file, lent->answers, 2, NULL, 0), 0, 0);
@@ -136,6 +154,10 @@ static uint64_t job_day(struct lent *lent) {
 static uint64_t job_day_listing(struct lent *lent) {
     uint64_t sum = 0;
     struct shaydhoqel_spoken answer = shaydhoqel_day_listing(OPENING, ends, FILES, files, sizeof files, lent->listing);
+    heard(&sum, answer, 0, answer.place);
+    add(&sum, lent->listing, sizeof lent->listing);
+    const uint64_t end = many_length;
+    answer = shaydhoqel_day_listing(OPENING, &end, 1, fallen, many_length, lent->listing);
     heard(&sum, answer, 0, answer.place);
     add(&sum, lent->listing, sizeof lent->listing);
     put_fault(0, lent);
@@ -158,6 +180,14 @@ static uint64_t job_listing(struct lent *lent) {
     uint64_t length = shaydhoqel_listing(lent->out, 65424, lent->listing);
     REQUIRE(memcmp(lent->listing, "ENTITY", 6) == 0);
     add(&sum, lent->listing, length);
+    /* and of many batches, fallen */
+    const size_t batches = 231, many_length = (2 + 3 * batches) * SHAYDHOQEL_RECORD;
+    built = shaydhoqel_build(OPENING, header, sizeof header, many_tray, 2 * batches * SHAYDHOQEL_TRAY_RECORD, lent->out, sizeof file);
+    heard(&sum, built, 0, many_length);
+    put_fall(lent->out, (int)batches);
+    length = shaydhoqel_listing(lent->out, many_length, lent->listing);
+    REQUIRE(memcmp(lent->listing, "ENTITY", 6) == 0);
+    add(&sum, lent->listing, length);
     return sum;
 }
 
@@ -166,6 +196,7 @@ static uint64_t job_extract(struct lent *lent) {
     heard(&sum, shaydhoqel_extract(OPENING, 402, file, sizeof file, lent->out, sizeof file), 0, sizeof file);
     heard(&sum, shaydhoqel_extract(OPENING, 402, many, many_length, lent->out, many_length), 0, many_length);
     heard(&sum, shaydhoqel_extract(OPENING, 403, many, many_length, lent->out, many_length), 0, 2 * SHAYDHOQEL_RECORD);
+    heard(&sum, shaydhoqel_extract(OPENING, 402, fallen, many_length, lent->out, many_length), 0, many_length);
     add(&sum, lent->out, many_length);
     heard(&sum, shaydhoqel_extract(OPENING, 402, file, sizeof file, lent->out, sizeof file - 1), SHAYDHOQEL_REFUSED_ROOM, 0);
     heard(&sum, shaydhoqel_extract(OPENING, 404, file, sizeof file, lent->out, sizeof file), SHAYDHOQEL_REFUSED_ENTITY, 0);
@@ -203,6 +234,7 @@ static uint64_t job_strip(struct lent *lent) {
     uint64_t sum = 0;
     heard(&sum, shaydhoqel_strip(OPENING, file, sizeof file, lent->out, sizeof lent->out), 0, sizeof tray);
     heard(&sum, shaydhoqel_strip(OPENING, many, many_length, lent->out, sizeof lent->out), 0, sizeof many_tray);
+    heard(&sum, shaydhoqel_strip(OPENING, fallen, many_length, lent->out, sizeof lent->out), 0, sizeof many_tray);
     add(&sum, lent->out, sizeof lent->out);
     heard(&sum, shaydhoqel_strip(OPENING, file, sizeof file, lent->out, sizeof tray - 1), SHAYDHOQEL_REFUSED_ROOM, 0);
     for (size_t i = 0; i < FAULTS; i++) {
@@ -215,6 +247,7 @@ static uint64_t job_strip(struct lent *lent) {
 static uint64_t job_receive(struct lent *lent) {
     uint64_t sum = 0;
     heard(&sum, shaydhoqel_receive(OPENING, 402, returned, sizeof returned), 0, RECORDS);
+    heard(&sum, shaydhoqel_receive(OPENING, 402, fallen_handed, many_length), 0, many_length / SHAYDHOQEL_RECORD);
     heard(&sum, shaydhoqel_receive(OPENING, 402, returned, sizeof returned - 1), SHAYDHOQEL_REFUSED_LENGTH, 0);
     heard(&sum, shaydhoqel_receive(OPENING, 403, returned, sizeof returned), SHAYDHOQEL_REFUSED_FORMAT, 0);
     heard(&sum, shaydhoqel_receive(OPENING, 404, returned, sizeof returned), SHAYDHOQEL_REFUSED_ENTITY, 0);
@@ -237,6 +270,7 @@ static uint64_t job_show(struct lent *lent) {
     shown(&sum, shaydhoqel_show(OPENING, 402, returned, length, motives, lines, last), 0, SHAYDHOQEL_IN_MOTIVES, line);
     shown(&sum, shaydhoqel_show(OPENING, 402, returned, length, motives, lines, last - 2), 0, SHAYDHOQEL_IN_FILE, in_file);
     shown(&sum, shaydhoqel_show(OPENING, 402, returned, length, motives, lines, last + 1), SHAYDHOQEL_REFUSED_REASON, 0, 0);
+    shown(&sum, shaydhoqel_show(OPENING, 402, fallen_handed, many_length, motives, lines, last), SHAYDHOQEL_REFUSED_REASON, 0, 0);
     shown(&sum, shaydhoqel_show(OPENING, 402, returned, length, motives, lines - 1, last), SHAYDHOQEL_REFUSED_TRAY, 0, 0);
     shown(&sum, shaydhoqel_show(OPENING, 402, file, sizeof file, motives, lines, last), SHAYDHOQEL_REFUSED_FORMAT, 0, 0);
     return sum;
@@ -253,6 +287,8 @@ static void texts_stand(const uint64_t *texts) {
 
 static uint64_t job_reasons(struct lent *lent) {
     uint64_t sum = 0;
+    heard(&sum, shaydhoqel_reasons(OPENING, 402, fallen_handed, many_length, motives, sizeof motives, lent->texts, 2 * RECORDS), 0,
+          many_length / SHAYDHOQEL_RECORD);
     heard(&sum, shaydhoqel_reasons(OPENING, 402, returned, sizeof returned, motives, sizeof motives, lent->texts, 2 * RECORDS), 0,
           RECORDS);
     texts_stand(lent->texts);
@@ -402,7 +438,10 @@ static void make_inputs(const uint8_t *l) {
     }
     REQUIRE(shaydhoqel_build(OPENING, header, sizeof header, tray, sizeof tray, file, sizeof file).place == sizeof file);
     many_length = shaydhoqel_build(OPENING, header, sizeof header, many_tray, sizeof many_tray, many, sizeof many).place;
-    REQUIRE(many_length == (2 + 3 * 3332) * SHAYDHOQEL_RECORD);
+    REQUIRE(many_length == (2 + 3 * MANY) * SHAYDHOQEL_RECORD);
+    memcpy(fallen, many, many_length);
+    put_fall(fallen, MANY);
+    REQUIRE(shaydhoqel_extract(OPENING, 402, fallen, many_length, fallen_handed, sizeof fallen_handed).place == many_length);
     for (size_t i = 0; i < FILES; i++) {
         memcpy(files + i * sizeof file, file, sizeof file);
         files[i * sizeof file + 33] = (uint8_t)IDENTIFIERS[i];

@@ -22,13 +22,27 @@ enum Given<'a> {
 /// A job with the stack that it needs.
 type Job<'a> = (usize, Box<dyn Fn() -> Given<'a> + Sync + 'a>);
 
-/// The longest tray that a file can be built from, the file, and one that lacks its last record; the longest extract with rejections.
+/// The longest tray that a file can be built from, the file, and one that lacks its last record; one of many batches whose numbers all have
+/// to be looked at; the longest extract with rejections.
 struct Inputs {
     tray: Vec<u8>,
     file: Vec<u8>,
     cut: Vec<u8>,
+    fallen: Vec<u8>,
     handed: Vec<u8>,
     motives: Vec<u8>,
+}
+
+/// As many batches of one order as a file takes, the first number above the others and with the remainder of the last by 65,536.
+fn fallen(batch: &[u8]) -> Vec<u8> {
+    const BATCHES: usize = 3_332;
+    let tray = batch.repeat(BATCHES);
+    let (answer, mut file) = lent(FILE_LIMIT, |out| OPENING.build(record(L, 0), &tray, out));
+    file.truncate(answer.expect("a good tray"));
+    let number = format!("{:07}", 65_536 + BATCHES);
+    file[2 * RECORD + 87..3 * RECORD].copy_from_slice(number.as_bytes());
+    assert_eq!(OPENING.read(&file), Ok(file.len() / RECORD));
+    file
 }
 
 impl Inputs {
@@ -40,6 +54,7 @@ impl Inputs {
         assert_eq!(answer, Ok(FILE_LIMIT));
         let cut = file[..FILE_LIMIT - RECORD].to_vec();
         assert_eq!(OPENING.read(&cut), refused(Fault::Format, 9_999));
+        let fallen = fallen(&[batch, individual].concat());
         let pair = [("36", "SIN FONDOS"), ("31", "")];
         let pair = pair.map(|(code, text)| rejection(code, "04020001", 10, text));
         let rejected = [batch, &pair.concat().repeat(2_499)].concat();
@@ -53,6 +68,7 @@ impl Inputs {
             tray,
             file,
             cut,
+            fallen,
             handed,
             motives,
         }
@@ -67,13 +83,17 @@ impl Inputs {
     }
 
     fn read(&self) -> Vec<Job<'_>> {
-        let Inputs { file, cut, .. } = self;
+        let Inputs {
+            file, cut, fallen, ..
+        } = self;
         let read = |file| Given::Read(OPENING.read(file));
         let listing = |input| Given::Listed(Ok(desk::listing(input)));
         let day = desk::STACK_DAY;
         vec![
             (desk::STACK_READ, Box::new(move || read(file))),
             (desk::STACK_READ, Box::new(move || read(cut))),
+            (desk::STACK_READ, Box::new(move || read(fallen))),
+            (day, Box::new(|| Given::Day(OPENING.day(&[fallen])))),
             (
                 day,
                 Box::new(|| Given::Day(OPENING.day(&[cut, L, file, file]))),
@@ -88,7 +108,11 @@ impl Inputs {
 
     fn written(&self) -> Vec<Job<'_>> {
         let Inputs {
-            tray, file, cut, ..
+            tray,
+            file,
+            cut,
+            fallen,
+            ..
         } = self;
         let build =
             |tray, room| Given::Written(lent(room, |out| OPENING.build(record(L, 0), tray, out)));
@@ -100,10 +124,12 @@ impl Inputs {
         vec![
             (extracting, Box::new(move || extract(file, FILE_LIMIT))),
             (extracting, Box::new(move || extract(file, FILE_LIMIT - 1))),
+            (extracting, Box::new(move || extract(fallen, FILE_LIMIT))),
             (building, Box::new(move || build(tray, FILE_LIMIT))),
             (building, Box::new(move || build(&tray[1..], FILE_LIMIT))),
             (stripping, Box::new(move || strip(file, TRAY_ROOM))),
             (stripping, Box::new(move || strip(cut, TRAY_ROOM))),
+            (stripping, Box::new(move || strip(fallen, TRAY_ROOM))),
         ]
     }
 

@@ -1,5 +1,6 @@
 //! Types 6 and 7: the individual record and its additional.
 
+use crate::counters::Counters;
 use crate::fields::{all_blank, all_digits, entity, field, number};
 use crate::reader::Reader;
 use crate::refusal::{
@@ -43,14 +44,14 @@ pub struct Individual<'a> {
     pub amount: u64,
     /// 80-94: sender and sequence.
     pub counter: &'a [u8],
-    pub sequence: u64,
 }
 
 impl<'a> Individual<'a> {
+    /// The counters are those of the individual records before it.
     pub fn check(
         reader: &Reader,
         sender: &[u8],
-        last_sequence: u64,
+        counters: &mut Counters,
         record: &'a [u8],
     ) -> Result<Self, u16> {
         let code = Code::of(record).ok_or(FORMAT)?;
@@ -67,16 +68,13 @@ impl<'a> Individual<'a> {
         let counter_sender = field(record, 80, 87);
         require(all_digits(counter_sender), FORMAT)?;
         let sequence = number(field(record, 88, 94)).ok_or(FORMAT)?;
-        require(
-            counter_sender == sender && sequence > last_sequence,
-            COUNTER,
-        )?;
+        require(counter_sender == sender, COUNTER)?;
+        require(counters.take(sequence), COUNTER)?;
         Ok(Individual {
             code,
             destination: destination.value,
             amount,
             counter: field(record, 80, 94),
-            sequence,
         })
     }
 

@@ -1,8 +1,10 @@
 //! An independent second program for document 01: reading, opening, presenting, extracting, building, stripping and the listing; with
-//! what ticket 1 of document 02 adds, receiving and showing reasons. Beside it, the reading once more, tuned for speed.
+//! what document 02 adds: receiving and showing reasons (ticket 1), counters per batch (ticket 3). Beside it, the reading once more,
+//! tuned for speed.
 
 pub mod building;
 pub mod controls;
+mod counters;
 pub mod currency;
 pub mod day;
 pub mod extract;

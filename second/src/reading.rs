@@ -1,6 +1,7 @@
 //! The reading: the length, then each record in order; the first fault is the answer.
 
 use crate::controls::{check_batch_control, check_file_control, Sums};
+use crate::counters::Counters;
 use crate::fields::is_character;
 use crate::headers::{check_batch_header, check_file_header, sender};
 use crate::individual::{has_additional, Individual};
@@ -67,6 +68,7 @@ struct Reading<'a> {
     /// The last batch header; empty before the first batch.
     header: &'a [u8],
     individual: Option<Individual<'a>>,
+    counters: Counters,
     batch: Sums,
     file: Sums,
 }
@@ -81,6 +83,7 @@ impl<'a> Reading<'a> {
             batches: 0,
             header: &[],
             individual: None,
+            counters: Counters::default(),
             batch: Sums::default(),
             file: Sums::default(),
         }
@@ -106,14 +109,14 @@ impl<'a> Reading<'a> {
     fn open_batch(&mut self, record: &'a [u8]) -> Result<(), u16> {
         check_batch_header(&self.reader, self.batches, record)?;
         self.header = record;
+        self.counters.open_batch();
         self.batch = Sums::default();
         Ok(())
     }
 
     fn take_individual(&mut self, record: &'a [u8]) -> Result<(), u16> {
-        // The sequence runs on through the file's batches; the first exceeds 0.
-        let last = self.individual.map_or(0, |individual| individual.sequence);
-        let individual = Individual::check(&self.reader, sender(self.header), last, record)?;
+        let sender = sender(self.header);
+        let individual = Individual::check(&self.reader, sender, &mut self.counters, record)?;
         self.batch.add_individual(&individual);
         self.individual = Some(individual);
         Ok(())

@@ -10,6 +10,8 @@ mod judge;
 mod picture;
 mod records;
 mod refusals;
+mod repeats;
+mod spans;
 mod words;
 
 use crate::reading::{MOST_RECORDS, RECORD};

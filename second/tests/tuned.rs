@@ -3,9 +3,11 @@
 mod common;
 
 use common::*;
-use second::generate::generate;
-use second::generate::good::{any_file, file_of, file_with_batches};
+use second::generate::counters::{put_counter_fault, scatter_and_repeat};
+use second::generate::good::{any_file, file_of, file_with_batches, smallest_batches};
+use second::generate::numbering::renumber;
 use second::generate::random::Random;
+use second::generate::{generate, Draft};
 use second::{read, tuned, Currency, Rules};
 
 /// Bytes at the edges of what may stand somewhere, and far from them.
@@ -190,6 +192,60 @@ fn bad_bytes_far_in() {
         let draft = any_file(&mut random);
         let file = [draft.bytes(), vec![random.byte(); 94]].concat();
         agree(&draft.rules, &file, &format!("{number}: one more"));
+    }
+}
+
+/// So many files of each size.
+const FALLING: [(usize, u64); 4] = [(12, 4_000), (100, 800), (1_000, 150), (10_000, 16)];
+
+/// Counters that fall, good and broken, in batches of some twenty records and of one.
+#[test]
+fn falling_counters() {
+    for (records, files) in FALLING {
+        for number in 0..files {
+            let mut random = Random::new(records as u64, number);
+            let mut draft = match number % 3 {
+                0 => smallest_batches(&mut random, (records - 2) / 3),
+                _ => file_of(&mut random, records),
+            };
+            renumber(&mut random, &mut draft);
+            let good = draft.records.len();
+            assert_eq!(tuned::read(&draft.rules, &draft.bytes()), Ok(good));
+            let name = format!("{records} records, {number}");
+            one_counter_changed(&mut random, &draft, &name);
+            let expected = put_counter_fault(&mut random, &mut draft);
+            assert_eq!(
+                Some(tuned::read(&draft.rules, &draft.bytes())),
+                expected,
+                "{name}"
+            );
+            agree(&draft.rules, &draft.bytes(), &name);
+            put_counter_fault(&mut random, &mut draft);
+            agree(&draft.rules, &draft.bytes(), &format!("{name}: twice"));
+            let expected = scatter_and_repeat(&mut random, &mut draft, 3);
+            agree(
+                &draft.rules,
+                &draft.bytes(),
+                &format!("{name}: {expected:?}"),
+            );
+        }
+    }
+}
+
+/// Any digit of a counter, alone and with the file cut off behind it.
+fn one_counter_changed(random: &mut Random, draft: &Draft, name: &str) {
+    let individuals = draft.places(|record| record[0] == b'6');
+    for _ in 0..4 {
+        let mut file = draft.bytes();
+        let place = *random.pick(&individuals);
+        file[place * 94 + random.between(87, 93)] = random.digit();
+        agree(&draft.rules, &file, &format!("{name}: changed at {place}"));
+        let end = random.between(place + 1, draft.records.len());
+        agree(
+            &draft.rules,
+            &file[..end * 94],
+            &format!("{name}: up to {end}"),
+        );
     }
 }
 

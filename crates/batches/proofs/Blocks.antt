@@ -6,7 +6,6 @@ use mathlib.Core.Path.{_≡_, refl, sym, ap, _∙_}
 use native.Mathlib.Omega.{arith}
 use lib.ListN.{length, length-append}
 use Rattle.paper.specs.declared.record.Kind.the-variants.{Individual, Additional}
-use Rattle.paper.specs.Fields.{field, number}
 use Rattle.paper.specs.Controls.{zeros}
 use Rattle.paper.specs.Reading.{Reckoning, counted}
 use Rattle.paper.specs.Writing.{joined, numbered, batchControlOf, settled, owedBefore, settledBefore, withControls}
@@ -34,33 +33,22 @@ length-block n header own h z =
 
 -- ---- controls
 
--- the counts after a batch's own records; k is the number of the last individual one
-abbrev pub past : Reckoning → List (List ℕ) → ℕ → Reckoning
-past c rs k = record {
-  place = c .place + length rs;
-  header = c .header;
-  counter = k;
-  batches = c .batches;
-  batch = tallied (c .batch) rs;
-  closed = c .closed;
-}
+-- the counts after a batch's own records
+abbrev pub past : Reckoning → List (List ℕ) → Reckoning
+past c rs = record { place = c .place + length rs; header = c .header; batches = c .batches; batch = tallied (c .batch) rs; closed = c .closed }
 
-one-past : (c : Reckoning) (r : List ℕ) (rest : List (List ℕ)) → Is Individual r ⊎ Is Additional r
-    → (k : ℕ) × (withControls c (r ∷ rest) ≡ r ∷ withControls (past c (r ∷ []) k) rest)
+one-past : (c : Reckoning) (r : List ℕ) (rest : List (List ℕ)) → Is Individual r ⊎ Is Additional r → withControls c (r ∷ rest) ≡ r ∷ withControls (past c (r ∷ [])) rest
 unfolding withControls owedBefore settledBefore counted tallied withRecord
-one-past c r rest (inl h) = (number (field r 88 94), rw (h .0) refl)
-one-past c r rest (inr h) = (c .counter, rw (h .0) refl)
+one-past c r rest (inl h) = rw (h .0) refl
+one-past c r rest (inr h) = rw (h .0) refl
 
 -- no control comes before or among them
-pub controls-past : (c : Reckoning) (rs rest : List (List ℕ)) → Within rs
-    → (k : ℕ) × (withControls c (rs ++ rest) ≡ rs ++ withControls (past c rs k) rest)
+pub controls-past : (c : Reckoning) (rs rest : List (List ℕ)) → Within rs → withControls c (rs ++ rest) ≡ rs ++ withControls (past c rs) rest
 unfolding tallied
-controls-past c [] rest w = (c .counter, let e : c .place + 0 ≡ c .place = omega arith in rw e refl)
+controls-past c [] rest w = let e : c .place + 0 ≡ c .place = omega arith in rw e refl
 controls-past c (r ∷ rs) rest w =
-    let first = one-past c r (rs ++ rest) (w .0) in
-    let later = controls-past (past c (r ∷ []) (first .0)) rs rest (w .1) in
     let e : c .place + suc (length rs) ≡ c .place + 1 + length rs = omega arith in
-    (later .0, first .1 ∙ rw e (ap (λ (l : List (List ℕ)). r ∷ l) (later .1)))
+    one-past c r (rs ++ rest) (w .0) ∙ rw e (ap (λ (l : List (List ℕ)). r ∷ l) (controls-past (past c (r ∷ [])) rs rest (w .1)))
 
 pub settled-batches : (n : ℕ) (c : Reckoning) → settled n c .batches ≡ c .batches
 unfolding settled counted

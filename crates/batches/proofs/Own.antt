@@ -10,12 +10,12 @@ use lib.ListN.{length, drop, drop-of-length-le}
 use Rattle.paper.specs.declared.record.Kind.{Kind}
 use Rattle.paper.specs.declared.record.Kind.the-variants.{FileHeader, BatchHeader, Individual, Additional, BatchControl, FileControl, Other}
 use Rattle.paper.specs.declared.record.Tally.{Tally}
-use Rattle.paper.specs.Kinds.{kindOf}
+use Rattle.paper.specs.Kinds.{opensBatch, kindOf}
 use Rattle.paper.proofs.Grouping.{Is}
 use Rattle.paper.proofs.Lists.{Sized}
 use Rattle.controls.specs.Bounds.{Below}
 use Rattle.controls.proofs.Bounds.{below-more, below-additional, below-individual}
-use Rattle.batches.specs.Blocks.{opensBatch, ownAt, ownOf, withRecord, tallied}
+use Rattle.batches.specs.Blocks.{ownAt, ownOf, withRecord, tallied}
 
 -- ---- which they are
 
@@ -68,7 +68,6 @@ Within [] = Unit {0}
 Within (r ∷ rs) = (Is Individual r ⊎ Is Additional r) × Within rs
 
 pub stays : (r : List ℕ) → Is Individual r ⊎ Is Additional r → opensBatch (kindOf r) ≡ false
-unfolding opensBatch
 stays r (inl h) = rw (h .0) refl
 stays r (inr h) = rw (h .0) refl
 

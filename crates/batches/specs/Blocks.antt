@@ -7,19 +7,10 @@ use lib.ListN.{length}
 use Rattle.paper.specs.declared.record.Kind.{Kind}
 use Rattle.paper.specs.declared.record.Kind.the-variants.{FileHeader, BatchHeader, Individual, Additional, BatchControl, FileControl, Other}
 use Rattle.paper.specs.declared.record.Tally.{Tally}
-use Rattle.paper.specs.Kinds.{kindOf}
+use Rattle.paper.specs.Kinds.{opensBatch, kindOf}
 use Rattle.paper.specs.Controls.{zeros, withIndividual, withAdditional}
 use Rattle.paper.specs.Writing.{joined, numbered, batchControlOf}
 use Rattle.paper.specs.Buffers.{over}
-
-unfoldable pub opensBatch : Kind → Bool
-opensBatch FileHeader = false
-opensBatch BatchHeader = true
-opensBatch Individual = false
-opensBatch Additional = false
-opensBatch BatchControl = false
-opensBatch FileControl = false
-opensBatch Other = false
 
 -- the records before the next batch header
 unfoldable pub ownOf : List (List ℕ) → List (List ℕ)

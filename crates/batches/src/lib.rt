@@ -2,9 +2,9 @@
 ghost use mathlib.Core.Path.{_≡_};
 ghost use Prim.Native.Nat.{_^_, _≤_};
 ghost use lib.ListN.{length};
-ghost use Rattle.paper.specs.Kinds.{kindOf};
+ghost use Rattle.paper.specs.Kinds.{opensBatch, kindOf};
 ghost use Rattle.controls.specs.Bounds.{Below};
-ghost use Rattle.batches.specs.Blocks.{opensBatch, withRecord};
+ghost use Rattle.batches.specs.Blocks.{withRecord};
 use controls::tally;
 use field::kind;
 use paper::record::Kind;
@@ -16,10 +16,7 @@ pub fn opens(rec: &[u8]) -> bool
     requires { ⌜ 1 ≤ length (now rec) ⌝ }
     ensures { λ r. ⌜ r ≡ opensBatch (kindOf (now (rec .entry))) ⌝ }
 {
-    match kind::kind(rec) {
-        Kind::BatchHeader => true,
-        _ => false,
-    }
+    kind::opens_batch(kind::kind(rec))
 }
 
 // A record counted with those before it.

@@ -5,13 +5,14 @@ use mathlib.Core.Logic.{_⊎_, inl, inr}
 use mathlib.Core.Path.{_≡_, refl, sym, ap, _∙_}
 use native.Mathlib.Omega.{arith}
 use lib.ListN.{length, drop}
+use Rattle.paper.specs.Kinds.{opensBatch}
 use Rattle.paper.specs.declared.record.Kind.the-variants.{FileHeader, BatchHeader, Individual, Additional}
 use Rattle.paper.specs.Controls.{zeros, plus}
 use Rattle.paper.specs.Reading.{Reckoning, nothingCounted, counted}
 use Rattle.paper.specs.Writing.{batchControlOf, fileControlOf, owed, settled, owedBefore, settledBefore, ending, withControls}
 use Rattle.paper.proofs.Grouping.{Is}
 use Rattle.paper.proofs.Lists.{Sized}
-use Rattle.batches.specs.Blocks.{opensBatch, ownOf, tallied}
+use Rattle.batches.specs.Blocks.{ownOf, tallied}
 use Rattle.batches.proofs.Own.{Within, stays}
 use Rattle.batches.proofs.Blocks.{past, controls-past}
 
@@ -44,7 +45,7 @@ record Split (rs : List (List ℕ)) : Type 0 where
   pub heads : Heads (drop (length (ownOf rs)) rs)
 
 split : (rs : List (List ℕ)) → Plain rs → Split rs
-unfolding ownOf opensBatch
+unfolding ownOf
 split [] p = record { within = tt; all = refl; heads = tt }
 split (r ∷ rs) p = one (p .0) (split rs (p .1))
   where
@@ -84,13 +85,13 @@ begins header rs p =
     let rest : List (List ℕ) = drop (length own) rs in
     let c : Reckoning = counted FileHeader nothingCounted header in
     let inside = controls-past c own rest (s .within) in
-    let d : Reckoning = past c own (inside .0) in
+    let d : Reckoning = past c own in
     record {
       counts = d;
       place = omega arith;
       batches = refl;
       closed = refl;
-      all = ap (withControls c) (s .all) ∙ inside .1 ∙ ap (λ (l : List (List ℕ)). own ++ l) (controls-remaining d rest (s .heads));
+      all = ap (withControls c) (s .all) ∙ inside ∙ ap (λ (l : List (List ℕ)). own ++ l) (controls-remaining d rest (s .heads));
       heads = s .heads;
     }
 
@@ -112,7 +113,7 @@ closes d header rs p =
     let rest : List (List ℕ) = drop (length own) rs in
     let c : Reckoning = counted BatchHeader d header in
     let inside = controls-past c own rest (s .within) in
-    let e : Reckoning = past c own (inside .0) in
+    let e : Reckoning = past c own in
     let control : List ℕ = batchControlOf header (tallied zeros own) in
     let later : Reckoning = settled (e .batches) e in
     record {
@@ -121,6 +122,6 @@ closes d header rs p =
       batches = refl;
       closed = refl;
       all = ap (λ (l : List (List ℕ)). header ∷ l)
-          (ap (withControls c) (s .all) ∙ inside .1 ∙ ap (λ (l : List (List ℕ)). own ++ l) (controls-remaining e rest (s .heads)) ∙ sym (append-assoc own (control ∷ []) (remaining later rest)));
+          (ap (withControls c) (s .all) ∙ inside ∙ ap (λ (l : List (List ℕ)). own ++ l) (controls-remaining e rest (s .heads)) ∙ sym (append-assoc own (control ∷ []) (remaining later rest)));
       heads = s .heads;
     }

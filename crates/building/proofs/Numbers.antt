@@ -9,11 +9,11 @@ use lib.ListN.{length, take, drop}
 use lib.Seq.{take-add}
 use Rattle.paper.specs.declared.record.Kind.{Kind}
 use Rattle.paper.specs.declared.record.Kind.the-variants.{FileHeader, BatchHeader, Individual, Additional, BatchControl, FileControl, Other}
-use Rattle.paper.specs.Kinds.{kindOf}
+use Rattle.paper.specs.Kinds.{opensBatch, kindOf}
 use Rattle.paper.specs.Writing.{numbered}
 use Rattle.paper.specs.Trays.{batchesAfter, individualsAfter, numberedBy, numbering}
 use Rattle.paper.proofs.Lists.{Sized, kind-numbered}
-use Rattle.batches.specs.Blocks.{opensBatch, ownAt}
+use Rattle.batches.specs.Blocks.{ownAt}
 use Rattle.tray.proofs.Places.{OnTray}
 use Rattle.building.specs.declared.numbering.Numbering.{Numbering}
 use Rattle.building.specs.Numbering.{after, through, lastNumber, numberedFrom}

@@ -8,12 +8,12 @@ use native.Mathlib.Omega.{arith}
 use lib.ListN.{length, take, drop}
 use Rattle.paper.specs.declared.record.Kind.{Kind}
 use Rattle.paper.specs.declared.record.Kind.the-variants.{BatchHeader, Individual, Additional}
-use Rattle.paper.specs.Kinds.{kindOf}
+use Rattle.paper.specs.Kinds.{opensBatch, kindOf}
 use Rattle.paper.specs.Writing.{numbered}
 use Rattle.paper.specs.Trays.{batchesAfter, individualsAfter, numberedBy, numbering}
 use Rattle.paper.proofs.Lists.{Sized, length-numbered}
 use Rattle.paper.proofs.Grouping.{Is}
-use Rattle.batches.specs.Blocks.{opensBatch, ownOf}
+use Rattle.batches.specs.Blocks.{ownOf}
 use Rattle.batches.proofs.Own.{stays}
 use Rattle.batches.proofs.Copying.{sized-drop}
 use Rattle.tray.specs.Trays.{bodyAt, bodies, Sound}
@@ -38,7 +38,7 @@ plain-numbering b n (r ∷ rs) p = (carries-numbered b n r (p .0), plain-numberi
 
 -- before the next batch header no batch is counted
 pub own-batches : (n : Numbering) (rs : List (List ℕ)) → Plain rs → through n (take (length (ownOf (numberedFrom n rs))) rs) .batches ≡ n .batches
-unfolding numbering through after batchesAfter individualsAfter ownOf opensBatch
+unfolding numbering through after batchesAfter individualsAfter ownOf
 own-batches n [] p = refl
 own-batches n (r ∷ rs) p = go (p .0) (own-batches (after (kindOf r) n) rs (p .1))
   where

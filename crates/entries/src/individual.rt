@@ -35,6 +35,16 @@ pub struct Entry {
     pub counter: u64,
 }
 
+impl Entry {
+    // Of a record that is no individual one.
+    pub const NONE: Entry = Entry {
+        code: Code::Unknown,
+        destination: 0,
+        amount: 0,
+        counter: 0,
+    };
+}
+
 // A record without fault with its numbers, each of them read once, or its first fault.
 pub enum Judged {
     Good(Entry),

@@ -6,14 +6,14 @@ use mathlib.Core.Path.{_≡_, refl, sym, ap, _∙_}
 use native.Mathlib.Omega.{arith}
 use lib.ListN.{length}
 use Rattle.paper.specs.declared.record.Kind.the-variants.{FileHeader, BatchHeader}
-use Rattle.paper.specs.Kinds.{kindOf}
+use Rattle.paper.specs.Kinds.{opensBatch, kindOf}
 use Rattle.paper.specs.Controls.{zeros}
 use Rattle.paper.specs.Reading.{Reckoning, nothingCounted, counted}
 use Rattle.paper.specs.Writing.{joined, numbered, fileControlOf, owed, settled, owedBefore, settledBefore, ending, withControls, closing}
 use Rattle.paper.specs.Extract.{Item, Batch, itemRecords, batchRecords}
 use Rattle.paper.proofs.Lists.{kind-numbered}
 use Rattle.paper.proofs.Grouping.{AdditionalsGood, ItemsGood, BatchesGood}
-use Rattle.batches.specs.Blocks.{opensBatch, ownOf, block}
+use Rattle.batches.specs.Blocks.{ownOf, block}
 use Rattle.batches.proofs.Own.{Within, own-within}
 use Rattle.batches.proofs.Blocks.{past, controls-past, settled-batches}
 use Rattle.extract.specs.Blocks.{blocksFrom, flat}
@@ -32,7 +32,7 @@ items-within (i ∷ is) g = (inl (g .0), additionals-within (i .additionals) (it
 -- ---- a batch's own records
 
 headers-end : (bs : List Batch) → BatchesGood bs → ownOf (flat bs) ≡ []
-unfolding ownOf flat opensBatch
+unfolding ownOf flat
 headers-end [] g = refl
 headers-end (b ∷ bs) g = rw (g .0 .0) refl
 
@@ -54,10 +54,10 @@ controls-blocks (b ∷ bs) n c e g =
     let own : List (List ℕ) = itemRecords (b .items) in
     let k : kindOf r ≡ BatchHeader = kind-numbered (suc n) (b .header) (omega (arith, g .0 .1)) ∙ g .0 .0 in
     let inside = controls-past (counted BatchHeader d r) own (batchRecords (suc n) bs) (items-within (b .items) (g .1)) in
-    let later = controls-blocks bs (suc n) (past (counted BatchHeader d r) own (inside .0)) (ap suc (settled-batches (c .batches) c ∙ e)) (g .2) in
+    let later = controls-blocks bs (suc n) (past (counted BatchHeader d r) own) (ap suc (settled-batches (c .batches) c ∙ e)) (g .2) in
     let m : d .place + (length own + 2) ≡ d .place + 1 + length own + 1 = omega arith in
     rw (k, m)
-    (ap (λ (l : List (List ℕ)). owed (c .batches) c ++ r ∷ l) (inside .1 ∙ ap (λ (l : List (List ℕ)). own ++ l) later ∙ sym (append-assoc own _ _)))
+    (ap (λ (l : List (List ℕ)). owed (c .batches) c ++ r ∷ l) (inside ∙ ap (λ (l : List (List ℕ)). own ++ l) later ∙ sym (append-assoc own _ _)))
 
 pub closing-blocks : (header : List ℕ) (bs : List Batch) → BatchesGood bs → closing header (batchRecords 0 bs) ≡ joined (header ∷ blocksFrom 1 0 zeros bs)
 unfolding closing counted nothingCounted owed settled

@@ -2,7 +2,7 @@
 ghost use mathlib.Core.Path.{_≡_};
 ghost use Prim.Native.Nat.{_<_, _^_};
 ghost use lib.ListN.{length};
-ghost use Rattle.paper.specs.Records.{amountOf, destinationIn, destinationField, senderIn, flaggedIn};
+ghost use Rattle.paper.specs.Records.{amountOf, destinationIn, destinationField, senderIn, flaggedIn, numberIn};
 ghost use Rattle.field.specs.Sequences.{sequenceOf};
 use crate::entity;
 use characters::number;
@@ -49,6 +49,17 @@ pub fn counter(rec: &[u8]) -> Sequence
         return Sequence::Other;
     };
     Sequence::Number(high % THREE_DIGITS * FOUR_DIGITS + low)
+}
+
+// 88 to 94; nothing where that is not seven digits.
+pub fn number(rec: &[u8]) -> u64
+    requires { ⌜ length (now rec) ≡ 94 ⌝ }
+    ensures { λ r. ⌜ (r ≡ numberIn (now (rec .entry))) × (r < 10 ^ 7) ⌝ }
+{
+    let Sequence::Number(n) = counter(rec) else {
+        return number::number(rec, 88, 94);
+    };
+    n
 }
 
 // The entity that it is addressed to, at any branch.

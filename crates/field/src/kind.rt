@@ -2,7 +2,7 @@
 ghost use mathlib.Core.Path.{_≡_};
 ghost use Prim.Native.Nat.{_≤_};
 ghost use lib.ListN.{length};
-ghost use Rattle.paper.specs.Kinds.{kindOf, codeOf, known, isOrder, takes01, collects, pays, rejects};
+ghost use Rattle.paper.specs.Kinds.{opensBatch, isIndividual, isAdditional, closesBatch, kindOf, codeOf, known, isOrder, takes01, collects, pays, rejects};
 use paper::record::Code;
 use paper::record::Kind;
 
@@ -18,6 +18,62 @@ pub fn kind(rec: &[u8]) -> Kind
         b'8' => Kind::BatchControl,
         b'9' => Kind::FileControl,
         _ => Kind::Other,
+    }
+}
+
+pub fn opens_batch(kind: Kind) -> bool
+    ensures { λ r. ⌜ r ≡ opensBatch kind ⌝ }
+{
+    match kind {
+        Kind::FileHeader => false,
+        Kind::BatchHeader => true,
+        Kind::Individual => false,
+        Kind::Additional => false,
+        Kind::BatchControl => false,
+        Kind::FileControl => false,
+        Kind::Other => false,
+    }
+}
+
+pub fn is_individual(kind: Kind) -> bool
+    ensures { λ r. ⌜ r ≡ isIndividual kind ⌝ }
+{
+    match kind {
+        Kind::FileHeader => false,
+        Kind::BatchHeader => false,
+        Kind::Individual => true,
+        Kind::Additional => false,
+        Kind::BatchControl => false,
+        Kind::FileControl => false,
+        Kind::Other => false,
+    }
+}
+
+pub fn is_additional(kind: Kind) -> bool
+    ensures { λ r. ⌜ r ≡ isAdditional kind ⌝ }
+{
+    match kind {
+        Kind::FileHeader => false,
+        Kind::BatchHeader => false,
+        Kind::Individual => false,
+        Kind::Additional => true,
+        Kind::BatchControl => false,
+        Kind::FileControl => false,
+        Kind::Other => false,
+    }
+}
+
+pub fn closes_batch(kind: Kind) -> bool
+    ensures { λ r. ⌜ r ≡ closesBatch kind ⌝ }
+{
+    match kind {
+        Kind::FileHeader => false,
+        Kind::BatchHeader => false,
+        Kind::Individual => false,
+        Kind::Additional => false,
+        Kind::BatchControl => true,
+        Kind::FileControl => false,
+        Kind::Other => false,
     }
 }
 

@@ -46,6 +46,11 @@ pub individual-read : (rules : Rules) (header : List ℕ) (before : ℕ) (r : Li
 unfolding individual transfer destination addressed
 individual-read rules header before r h = search (also-l, also-r, need-T) depth 20
 
+-- as one of its file
+pub entry-read : (rules : Rules) (s : State) (r : List ℕ) → fields Individual (inHouse rules) s r ≡ fine → IndividualRead rules (s .counts .header) (s .counter) r
+unfolding fields
+entry-read rules s r h = individual-read rules (s .counts .header) (s .counter) r (also-l _ _ h)
+
 pub record ControlRead (header : List ℕ) (t : Tally) (r : List ℕ) : Type 0 where
   pub service : T (same (field r 2 4) (field header 2 4))
   pub records : T (spells (field r 5 10) (t .records))

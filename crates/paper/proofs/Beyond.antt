@@ -22,4 +22,6 @@ beyond-cases =
     refl and refl and refl and refl and refl and refl and refl and  -- 22
     refl and refl and refl and refl and refl and  -- 23
     refl and refl and refl and refl and refl and refl and refl and refl and refl and refl and refl and refl and  -- 24
+    refl and refl and refl and refl and refl and refl and refl and refl and refl and  -- 51
+    refl and refl and refl and refl and refl and refl and refl and  -- 51
     done

@@ -46,6 +46,16 @@ unfolding need
 need-T true n h = tt
 need-T false n h = absurd (wrong-not-fine h)
 
+pub fine-also : (a b : Check) → a ≡ fine → b ≡ fine → a also b ≡ fine
+unfolding _also_
+fine-also fine b p q = q
+fine-also (wrong n) b p q = p
+
+pub need-met : (b : Bool) (n : ℕ) → T b → need b n ≡ fine
+unfolding need
+need-met true n t = refl
+need-met false n t = absurd t
+
 -- ---- the records of an accepted file, one by one
 
 at-fine : (place : ℕ) (c : Check) → at place c ≡ accepted → c ≡ fine

@@ -22,7 +22,7 @@ use Rattle.paper.specs.Demands.{Faultless}
 use Rattle.paper.proofs.Tests.{and-l, and-r, or-go, within-range, same→eq}
 use Rattle.paper.proofs.Lists.{Sized}
 use Rattle.paper.proofs.Digits.{number-bound}
-use Rattle.paper.proofs.Accepted.{IndividualRead, individual-read, BatchRead, batch-read, Follows, file-begins, batch-opens, file-ends, first-individual, its-additional, next-individual, batch-closes, judged-facts, accepted-facts}
+use Rattle.paper.proofs.Accepted.{IndividualRead, entry-read, BatchRead, batch-read, Follows, file-begins, batch-opens, file-ends, first-individual, its-additional, next-individual, batch-closes, judged-facts, accepted-facts}
 
 -- an entity of the session
 pub record Entity (rules : Rules) (f : List ℕ) : Type 0 where
@@ -111,9 +111,9 @@ all-facts rules (r ∷ rs) s z i h =
     go b k file-begins i f = (f, tt)
     go b k batch-opens i f = (let b = batch-read rules (s .counts .batches) r f in (b, b))
     go b k file-ends i f = (tt, tt)
-    go b k first-individual i f = (individual-of rules (s .counts .header) r (s .counts .counter) (z .0) i (individual-read rules (s .counts .header) (s .counts .counter) r f), inside (is (field r 79 79) "1") i)
+    go b k first-individual i f = (individual-of rules (s .counts .header) r (s .counter) (z .0) i (entry-read rules s r f), inside (is (field r 79 79) "1") i)
     go b k its-additional i f = (tt, i)
-    go b k next-individual i f = (individual-of rules (s .counts .header) r (s .counts .counter) (z .0) i (individual-read rules (s .counts .header) (s .counts .counter) r f), inside (is (field r 79 79) "1") i)
+    go b k next-individual i f = (individual-of rules (s .counts .header) r (s .counter) (z .0) i (entry-read rules s r f), inside (is (field r 79 79) "1") i)
     go b k batch-closes i f = (tt, tt)
 
 -- everything an accepted file says of its records

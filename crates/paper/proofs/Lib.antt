@@ -36,3 +36,4 @@ pub mod Regrouping
 pub mod Carried
 pub mod Shared
 pub mod Size
+pub mod Counters

@@ -22,7 +22,7 @@ use Rattle.paper.specs.Reading.{counted, State, start, flag, beforeNext,
 use Rattle.paper.specs.Postings.{Posting, posting, postedBy, senderAfter, postingsFrom, postings, ownPostings}
 use Rattle.paper.specs.Demands.{Faultless}
 use Rattle.paper.proofs.Lists.{length-parts}
-use Rattle.paper.proofs.Accepted.{individual-read, Follows, file-begins, batch-opens, file-ends, first-individual, its-additional, next-individual, batch-closes, judged-facts, accepted-facts}
+use Rattle.paper.proofs.Accepted.{entry-read, Follows, file-begins, batch-opens, file-ends, first-individual, its-additional, next-individual, batch-closes, judged-facts, accepted-facts}
 use Rattle.paper.proofs.Facts.{Facts, AllFacts, own-sender, file-facts}
 
 -- ---- by place
@@ -64,8 +64,8 @@ own-postings rules (r ∷ rs) s n i h =
     six : n ≡ entity (field (s .counts .header) 80 87) → fields Individual (inHouse rules) s r ≡ fine
         → postedBy Individual n r ≡ postedBy Individual (entity (field r 80 87)) r
     six i f =
-        let o = individual-read rules (s .counts .header) (s .counts .counter) r f in
-        ap (λ (m : ℕ). postedBy Individual m r) (i ∙ ap entity (sym (own-sender (s .counts .header) (s .counts .counter) r (o .counter))))
+        let o = entry-read rules s r f in
+        ap (λ (m : ℕ). postedBy Individual m r) (i ∙ ap entity (sym (own-sender (s .counts .header) (s .counter) r (o .counter))))
 
     go : (b : Before) (k : Kind) → Follows b k → Sent b (s .counts .header) n → fields k (inHouse rules) s r ≡ fine
         → (postedBy k n r ≡ postedBy k (entity (field r 80 87)) r) × Sent (beforeNext k r) (counted k (s .counts) r .header) (senderAfter k n r)

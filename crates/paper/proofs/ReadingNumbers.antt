@@ -83,7 +83,7 @@ fields-named : (k : Kind) (rules : ReadingRules) (s : State) (r : List ℕ) → 
 unfolding fields additional Named among
 fields-named FileHeader rules s r = header-named rules r
 fields-named BatchHeader rules s r = batch-named rules (s .counts .batches) r
-fields-named Individual rules s r = individual-named rules (s .counts .header) (s .counts .counter) r
+fields-named Individual rules s r = named-also _ _ (individual-named rules (s .counts .header) (s .counter) r) (named-need _ 27 tt)
 fields-named Additional rules s r = additional-named (s .individual) r (rejects (codeOf (s .individual)))
 fields-named BatchControl rules s r = control-named (s .counts .header) (s .counts .batch) r
 fields-named FileControl rules s r = total-named _ (s .counts .batches) (s .counts .closed) r

@@ -125,7 +125,7 @@ unfolding numbering
 numbering-sized [] b n z = tt
 numbering-sized (r ∷ rs) b n z = (numbered-by-length (kindOf r) b n r (z .0), numbering-sized rs (batchesAfter (kindOf r) b) (individualsAfter (kindOf r) n) (z .1))
 
-bodies-sized : (ts : List (List ℕ)) → Sized 96 ts → Sized 94 (map (drop 2) ts)
+pub bodies-sized : (ts : List (List ℕ)) → Sized 96 ts → Sized 94 (map (drop 2) ts)
 bodies-sized [] z = tt
 bodies-sized (t ∷ ts) z = (body t (z .0), bodies-sized ts (z .1))
 

@@ -1,5 +1,6 @@
 -- Beyond the marked cases, numbered on from 13: the rules that they leave out, and two faults in one record. Same form, same statement.
 use Prim.Native.Nat.{ℕ, _+_, _*_}
+use Prim.Native.String.{String}
 use mathlib.Core.Bool.{true, false}
 use mathlib.Core.List.{List, [], _∷_, _++_}
 use lib.IntN.{pos, negℤ}
@@ -37,6 +38,14 @@ freshAfter file = (presenting fresh file) .session
 -- L's tray, with a byte put at an index of the record at a place
 abbrev trayWith : ℕ → ℕ → ℕ → List ℕ
 trayWith place index byte = set (strip caseL) (place * 96 + index) byte
+
+-- L with other numbers in 88-94 of its three individual records, the third's in its additional too
+abbrev numberedL : String → String → String → List ℕ
+numberedL a b c = put 2 88 a (put 3 88 b (put 6 88 c (put 7 88 c caseL)))
+
+-- with both batches of one sender
+abbrev oneSender : List ℕ → List ℕ
+oneSender file = put 5 80 "04010001" (put 6 80 "04010001" (put 8 80 "04010001" file))
 
 abbrev pub beyond : List Row
 beyond =
@@ -186,4 +195,24 @@ beyond =
     case 24 (builds (today Pesos) (take 94 caseL) (take 575 (strip caseL)) (replicate 940 46) (gave 207 0 (replicate 940 46))) ∷
     case 24 (builds (today Pesos) (take 94 caseL) (trayWith 3 0 88) [] (gave 207 3 [])) ∷
     case 24 (builds (today Dollars) (take 94 caseL) (strip caseL) (replicate 939 46) (gave 206 0 (replicate 939 46))) ∷
+    -- request 3: numbers restart with a batch, at one that is not used
+    case 51 (reads (today Pesos) (numberedL "0000005" "0000009" "0000007") accepted) ∷
+    case 51 (reads (today Pesos) (numberedL "0000005" "0000009" "0000001") accepted) ∷
+    case 51 (reads (today Pesos) (oneSender (numberedL "0000005" "0000009" "0000001")) accepted) ∷
+    case 51 (reads (today Pesos) (numberedL "0000002" "9999999" "0000001") accepted) ∷
+    case 51 (answers fresh (numberedL "0000005" "0000009" "0000007") accepted) ∷
+    -- and 27 at the later of two, whoever the sender
+    case 51 (reads (today Pesos) (numberedL "0000001" "0000002" "0000001") (refused 27 6)) ∷
+    case 51 (reads (today Pesos) (oneSender (numberedL "0000001" "0000002" "0000001")) (refused 27 6)) ∷
+    case 51 (reads (today Pesos) (numberedL "0000001" "0000002" "0000002") (refused 27 6)) ∷
+    case 51 (reads (today Pesos) (numberedL "0000001" "0000001" "0000003") (refused 27 3)) ∷
+    -- order in a batch, and above 0
+    case 51 (reads (today Pesos) (numberedL "0000003" "0000002" "0000001") (refused 27 3)) ∷
+    case 51 (reads (today Pesos) (numberedL "9999999" "0000001" "0000002") (refused 27 3)) ∷
+    case 51 (reads (today Pesos) (numberedL "0000000" "0000001" "0000002") (refused 27 2)) ∷
+    case 51 (reads (today Pesos) (numberedL "0000001" "0000002" "0000000") (refused 27 6)) ∷
+    -- in its place among the rules
+    case 51 (reads (today Pesos) (put 6 30 "0000000000" (numberedL "0000001" "0000002" "0000001")) (refused 19 6)) ∷
+    case 51 (reads (today Pesos) (put 6 80 " " (numberedL "0000001" "0000002" "0000001")) (refused 17 6)) ∷
+    case 51 (reads (today Pesos) (put 8 21 "1" (numberedL "0000001" "0000002" "0000001")) (refused 27 6)) ∷
     []

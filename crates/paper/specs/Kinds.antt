@@ -27,6 +27,43 @@ kind b =
 unfoldable pub kindOf : List ℕ → Kind
 kindOf r = kind (getD r 0 0)
 
+-- a 5, a 6, a 7, an 8
+abbrev pub opensBatch : Kind → Bool
+opensBatch FileHeader = false
+opensBatch BatchHeader = true
+opensBatch Individual = false
+opensBatch Additional = false
+opensBatch BatchControl = false
+opensBatch FileControl = false
+opensBatch Other = false
+
+abbrev pub isIndividual : Kind → Bool
+isIndividual FileHeader = false
+isIndividual BatchHeader = false
+isIndividual Individual = true
+isIndividual Additional = false
+isIndividual BatchControl = false
+isIndividual FileControl = false
+isIndividual Other = false
+
+abbrev pub isAdditional : Kind → Bool
+isAdditional FileHeader = false
+isAdditional BatchHeader = false
+isAdditional Individual = false
+isAdditional Additional = true
+isAdditional BatchControl = false
+isAdditional FileControl = false
+isAdditional Other = false
+
+abbrev pub closesBatch : Kind → Bool
+closesBatch FileHeader = false
+closesBatch BatchHeader = false
+closesBatch Individual = false
+closesBatch Additional = false
+closesBatch BatchControl = true
+closesBatch FileControl = false
+closesBatch Other = false
+
 -- an individual record's transaction code
 unfoldable pub codeOf : List ℕ → Code
 codeOf r =

@@ -16,6 +16,7 @@ pub mod Trays
 pub mod Buffers
 pub mod Receiving
 pub mod Demands
+pub mod Counters
 pub mod Claims
 pub mod CaseL
 pub mod Marked

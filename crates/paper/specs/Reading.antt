@@ -1,6 +1,6 @@
 -- The reading: 201, then records in order. In a record: characters, whether this type may stand here, then its fields. The first fault is the answer.
 use Prim.Native.Nat.{ℕ, zero, suc, _+_, _*_, _/_, _%_}
-use mathlib.Core.Bool.{Bool, true, false, _&&_}
+use mathlib.Core.Bool.{Bool, true, false, not, _&&_, cond}
 use mathlib.Core.List.{List, [], _∷_}
 use lib.Dec.{eqb}
 use lib.ListN.{length, take, drop}
@@ -11,70 +11,62 @@ use Rattle.paper.specs.declared.record.Before.{Before}
 use Rattle.paper.specs.declared.record.Before.the-variants.{Nothing, Between, Opened, Flagged, Inside, Ended}
 use Rattle.paper.specs.Answers.{Said, accepted, refused, andThen, require}
 use Rattle.paper.specs.Checks.{Check, fine, wrong, need, _also_}
-use Rattle.paper.specs.Fields.{field, within, every, good, number}
-use Rattle.paper.specs.Kinds.{kindOf, allowed}
-use Rattle.paper.specs.Records.{ReadingRules, inHouse, fileHeader, batchHeader, individual, additional, flaggedIn}
+use Rattle.paper.specs.Fields.{within, among, every, good}
+use Rattle.paper.specs.Kinds.{opensBatch, isIndividual, isAdditional, closesBatch, kindOf, allowed}
+use Rattle.paper.specs.Records.{ReadingRules, inHouse, fileHeader, batchHeader, numberIn, individual, additional, flaggedIn}
 use Rattle.paper.specs.declared.record.Tally.{Tally}
 use Rattle.paper.specs.Controls.{zeros, plus, withIndividual, withAdditional, batchControl, fileControl}
 
--- what has been counted
+-- what the controls count
 pub record Reckoning : Type 0 where
   -- records, so that this is the next one's place
   pub place : ℕ
   -- the header of the last batch
   pub header : List ℕ
-  -- the number in 88-94 of the last individual record, 0 before the first
-  pub counter : ℕ
   pub batches : ℕ
   -- what the batch's control counts, and what the file control counts of the batches closed
   pub batch : Tally
   pub closed : Tally
 
 unfoldable pub nothingCounted : Reckoning
-nothingCounted = record { place = 0; header = []; counter = 0; batches = 0; batch = zeros; closed = zeros }
+nothingCounted = record { place = 0; header = []; batches = 0; batch = zeros; closed = zeros }
 
--- one record further
-abbrev pub onward : Reckoning → Reckoning
-onward c = record { place = c .place + 1; header = c .header; counter = c .counter; batches = c .batches; batch = c .batch; closed = c .closed }
+-- each figure after a record of a kind
+abbrev pub headerNext : Kind → List ℕ → List ℕ → List ℕ
+headerNext k header r = cond (opensBatch k) r header
+
+abbrev pub batchesNext : Kind → ℕ → ℕ
+batchesNext k batches = cond (opensBatch k) (suc batches) batches
+
+abbrev pub batchNext : Kind → Tally → List ℕ → Tally
+batchNext k batch r = cond (opensBatch k) zeros (cond (isIndividual k) (withIndividual batch r) (cond (isAdditional k) (withAdditional batch) batch))
+
+abbrev pub closedNext : Kind → Tally → Tally → Tally
+closedNext k closed batch = cond (closesBatch k) (plus closed batch) closed
 
 unfoldable pub counted : Kind → Reckoning → List ℕ → Reckoning
-counted FileHeader c r = onward c
-counted BatchHeader c r = record { place = c .place + 1; header = r; counter = c .counter; batches = suc (c .batches); batch = zeros; closed = c .closed }
-counted Individual c r = record {
+counted k c r = record {
   place = c .place + 1;
-  header = c .header;
-  counter = number (field r 88 94);
-  batches = c .batches;
-  batch = withIndividual (c .batch) r;
-  closed = c .closed;
+  header = headerNext k (c .header) r;
+  batches = batchesNext k (c .batches);
+  batch = batchNext k (c .batch) r;
+  closed = closedNext k (c .closed) (c .batch);
 }
-counted Additional c r = record {
-  place = c .place + 1;
-  header = c .header;
-  counter = c .counter;
-  batches = c .batches;
-  batch = withAdditional (c .batch);
-  closed = c .closed;
-}
-counted BatchControl c r = record {
-  place = c .place + 1;
-  header = c .header;
-  counter = c .counter;
-  batches = c .batches;
-  batch = c .batch;
-  closed = plus (c .closed) (c .batch);
-}
-counted FileControl c r = onward c
-counted Other c r = onward c
 
--- what the next record finds before it: what stands there, the last individual record, the counts
+-- what the next record finds before it
 pub record State : Type 0 where
+  -- what stands there
   pub before : Before
+  -- the last individual record
   pub individual : List ℕ
+  -- the number in 88-94 of that record, 0 as long as its batch has none
+  pub counter : ℕ
+  -- the numbers in 88-94 of all individual records of the file, the last first
+  pub seen : List ℕ
   pub counts : Reckoning
 
 unfoldable pub start : State
-start = record { before = Nothing; individual = []; counts = nothingCounted }
+start = record { before = Nothing; individual = []; counter = 0; seen = []; counts = nothingCounted }
 
 -- after a 6, by whether its position 79 is 1
 unfoldable pub flag : Bool → Before
@@ -91,26 +83,36 @@ beforeNext FileControl r = Ended
 beforeNext Other r = Nothing
 
 unfoldable pub lastIndividual : Kind → List ℕ → List ℕ → List ℕ
-lastIndividual FileHeader i r = i
-lastIndividual BatchHeader i r = i
-lastIndividual Individual i r = r
-lastIndividual Additional i r = i
-lastIndividual BatchControl i r = i
-lastIndividual FileControl i r = i
-lastIndividual Other i r = i
+lastIndividual k i r = cond (isIndividual k) r i
+
+abbrev pub counterNext : Kind → ℕ → List ℕ → ℕ
+counterNext k counter r = cond (opensBatch k) 0 (cond (isIndividual k) (numberIn r) counter)
+
+abbrev pub seenNext : Kind → List ℕ → List ℕ → List ℕ
+seenNext k seen r = cond (isIndividual k) (numberIn r ∷ seen) seen
+
+-- the state after a record of a kind
+abbrev pub stateNext : Kind → State → List ℕ → State
+stateNext k s r = record {
+  before = beforeNext k r;
+  individual = lastIndividual k (s .individual) r;
+  counter = counterNext k (s .counter) r;
+  seen = seenNext k (s .seen) r;
+  counts = counted k (s .counts) r;
+}
 
 unfoldable pub next : State → List ℕ → State
-next s r = record {
-  before = beforeNext (kindOf r) r;
-  individual = lastIndividual (kindOf r) (s .individual) r;
-  counts = counted (kindOf r) (s .counts) r;
-}
+next s r = stateNext (kindOf r) s r
+
+-- the number in 88-94 occurs in no earlier individual record of the file
+abbrev pub unseen : List ℕ → List ℕ → Check
+unseen seen r = need (not (among seen (numberIn r))) 27
 
 -- a record's fields, by its type; one of no type may stand nowhere
 unfoldable pub fields : Kind → ReadingRules → State → List ℕ → Check
 fields FileHeader rules s r = fileHeader rules r
 fields BatchHeader rules s r = batchHeader rules (s .counts .batches) r
-fields Individual rules s r = individual rules (s .counts .header) (s .counts .counter) r
+fields Individual rules s r = individual rules (s .counts .header) (s .counter) r also unseen (s .seen) r
 fields Additional rules s r = additional (s .individual) r
 fields BatchControl rules s r = batchControl (s .counts .header) (s .counts .batch) r
 fields FileControl rules s r = fileControl (s .counts .place + 1) (s .counts .batches) (s .counts .closed) r

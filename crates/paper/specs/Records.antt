@@ -100,6 +100,10 @@ originIn r = entity (field r 15 22)
 abbrev pub flaggedIn : List ℕ → Bool
 flaggedIn r = is (field r 79 79) "1"
 
+-- the number of an individual record in its file
+abbrev pub numberIn : List ℕ → ℕ
+numberIn r = number (field r 88 94)
+
 -- the account
 unfoldable pub accountGood : List ℕ → Bool
 accountGood r = digits (field r 13 29)
@@ -112,9 +116,9 @@ informationGood r = is (field r 77 78) "00" || is (field r 77 78) "01" && takes0
 unfoldable pub flagGood : List ℕ → Bool
 flagGood r = flaggedIn r || isOrder (codeOf r) && is (field r 77 78) "00"
 
--- 80-87 equals the sender's field, that of the batch's header, and 88-94 exceeds that of the individual record before it
+-- 80-87 equals the sender's field, that of the batch's header, and 88-94 exceeds that of the individual record before it in the batch
 unfoldable pub counterGood : List ℕ → ℕ → List ℕ → Bool
-counterGood header previous r = same (field r 80 87) (field header 80 87) && ltb previous (number (field r 88 94))
+counterGood header previous r = same (field r 80 87) (field header 80 87) && ltb previous (numberIn r)
 
 -- whom it is for: an entity on the roster, 204; at a desk, in its place, the desk's own entity, at any branch, 17
 unfoldable pub addressed : Reader → List Bool → List ℕ → Check
@@ -138,7 +142,7 @@ transfer rules r =
     also need (digits (field r 30 39) && ltb 0 (amountOf r)) 19
     also need (not (blank (field r 40 54))) 79
 
--- the whole, in the batch under a header; `previous` is the number in 88-94 of the individual record before it in the file, 0 for the first
+-- the whole, in the batch under a header; `previous` is the number in 88-94 of the individual record before it there, 0 for the first
 unfoldable pub individual : ReadingRules → List ℕ → ℕ → List ℕ → Check
 individual rules header previous r =
     transfer rules r

@@ -85,8 +85,9 @@ ready {place = place} {st = st} {kind = kind} a told may = record {
   short = a .short;
   inside = a .inside;
   told = told;
-  room = a .room;
-  stands = stands-before place st (follows (st .before) kind may) (a .preceded);
+  room = a .standing .room;
+  stands = stands-before place st (follows (st .before) kind may) (a .standing .preceded);
+  known = a .standing .known;
 }
 
 -- a step as the reading takes it

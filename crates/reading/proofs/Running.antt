@@ -15,7 +15,7 @@ module _ (rules : ReadingRules) (file : List ℕ) (records place : ℕ) (next : 
       → Runs rules file records (place + 1) next r → Runs rules file records place st r
   unfolding Runs
   runs-after st (Reached at after) e h =
-      record { further = omega (arith, h .further); within = h .within; room = h .room; preceded = h .preceded; framed = h .framed; left = e ∙ h .left }
+      record { further = omega (arith, h .further); within = h .within; standing = h .standing; framed = h .framed; left = e ∙ h .left }
   runs-after st (Stopped fault at) e h = e ∙ h
 
   pub further-after : (r : Run) → Runs rules file records (place + 1) next r → Further place r

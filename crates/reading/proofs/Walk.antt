@@ -17,6 +17,7 @@ use Rattle.paper.specs.Reading.{nothingCounted, start, judged, next, finish, at
 use Rattle.paper.proofs.Tests.{T-of, within-range, and-l}
 use Rattle.paper.proofs.Places.{parts-from}
 use Rattle.paper.proofs.Lists.{length-parts}
+use Rattle.counters.specs.Numbers.{numbersBefore}
 use Rattle.state.specs.declared.State.{State}
 use Rattle.state.specs.States.{meant, goes, stops, afterRecord}
 
@@ -67,10 +68,10 @@ nowhere file h = rw (drop-of-length-le file h)
 
 -- the state before the first record
 abbrev pub nothingRead : State
-nothingRead = record { before = Nothing; header = 10000; individual = 10000; counter = 0; batches = 0; batch = zeros; closed = zeros }
+nothingRead = record { before = Nothing; header = 10000; individual = 10000; counter = 0; highest = 0; fresh = 0; batches = 0; batch = zeros; closed = zeros }
 
 meant-start : (file : List ℕ) → length file ≤ 940000 → meant file 0 nothingRead ≡ start
-unfolding meant start nothingCounted
+unfolding meant start nothingCounted numbersBefore
 meant-start file h = rw (nowhere file h)
 
 pub at-start : (rules : ReadingRules) (file : List ℕ) (n : ℕ) → length file ≤ 940000

@@ -1,20 +1,19 @@
 -- What one record comes to: its characters, its type's place, its fields, and the state after it. And a run of records.
 use Prim.Native.Nat.{ℕ, _+_, _/_, _≤_, _<_}
-use mathlib.Core.Bool.{Bool, true, false}
+use mathlib.Core.Bool.{Bool, true, false, _||_}
 use mathlib.Core.List.{List}
 use mathlib.Core.Path.{_≡_}
 use lib.ListN.{length, take, drop}
 use Rattle.paper.specs.declared.record.Before.the-variants.{Nothing}
 use Rattle.paper.specs.declared.record.Kind.{Kind}
-use Rattle.paper.specs.declared.record.Kind.the-variants.{FileHeader, BatchHeader, Individual, Additional, BatchControl, FileControl, Other}
 use Rattle.paper.specs.Answers.{Said, refused, numberOf}
 use Rattle.paper.specs.Fields.{every, good}
-use Rattle.paper.specs.Kinds.{kindOf}
+use Rattle.paper.specs.Kinds.{isIndividual, isAdditional, kindOf}
 use Rattle.paper.specs.Records.{ReadingRules}
 use Rattle.paper.specs.Reading.{judged, next, recordAt, readingFrom, parts}
 use Rattle.state.specs.declared.State.{State}
 use Rattle.state.specs.declared.Step.{Step}
-use Rattle.state.specs.States.{meant, AfterRecord, afterRecord, stepSays, RoomToCount, Preceded, Kept}
+use Rattle.state.specs.States.{meant, AfterRecord, afterRecord, stepSays, Standing, Kept}
 use Rattle.reading.specs.declared.Run.{Run}
 use Rattle.reading.specs.declared.Run.the-variants.{Reached, Stopped}
 
@@ -25,7 +24,7 @@ taken rules file place st =
 -- what a step says, here `outcome`, and what it keeps for the next record
 pub record Comes (outcome : AfterRecord) (file : List ℕ) (place : ℕ) (r : Step) : Type 0 where
   pub says : stepSays file (place + 1) r ≡ outcome
-  pub kept : Kept (place + 1) r
+  pub kept : Kept file (place + 1) r
 
 -- so many bytes at the front are characters
 pub record Clean (file : List ℕ) (front : ℕ) : Type 0 where
@@ -34,13 +33,7 @@ pub record Clean (file : List ℕ) (front : ℕ) : Type 0 where
 
 -- an individual record or an additional one
 abbrev pub isEntry : Kind → Bool
-isEntry FileHeader = false
-isEntry BatchHeader = false
-isEntry Individual = true
-isEntry Additional = true
-isEntry BatchControl = false
-isEntry FileControl = false
-isEntry Other = false
+isEntry k = isIndividual k || isAdditional k
 
 -- no entry stands here but as the first record
 abbrev pub Framed : List ℕ → ℕ → State → Type 0
@@ -51,8 +44,7 @@ pub record Underway (file : List ℕ) (records front place : ℕ) (st : State) :
   pub all : records ≡ length file / 94
   pub within : place ≤ records
   pub short : length file ≤ 940000
-  pub room : RoomToCount place st
-  pub preceded : Preceded (st .before) place st
+  pub standing : Standing file place st
   pub clean : Clean file front
 
 -- what the records from a place on answer
@@ -63,8 +55,7 @@ onFrom rules file records place st = readingFrom rules (meant file place st) (dr
 pub record Reaches (rules : ReadingRules) (file : List ℕ) (records place : ℕ) (st : State) (at : ℕ) (after : State) : Type 0 where
   pub further : place ≤ at
   pub within : at ≤ records
-  pub room : RoomToCount at after
-  pub preceded : Preceded (after .before) at after
+  pub standing : Standing file at after
   pub framed : at < records → isEntry (kindOf (recordAt file at)) ≡ false
   pub left : onFrom rules file records place st ≡ onFrom rules file records at after
 

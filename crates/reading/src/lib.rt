@@ -115,10 +115,7 @@ fn stands(clean: bool, rec: &[u8], before: Before, kind: Kind) -> Verdict
 fn is_entry(kind: Kind) -> bool
     ensures { λ r. ⌜ r ≡ isEntry kind ⌝ }
 {
-    match kind {
-        Kind::Individual | Kind::Additional => true,
-        _ => false,
-    }
+    kind::is_individual(kind) | kind::is_additional(kind)
 }
 
 // One of these. Its kind is written out, so that the compiler knows what may stand before it.

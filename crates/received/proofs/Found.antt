@@ -5,6 +5,7 @@ use mathlib.Core.Bool.{Bool, true, false}
 use mathlib.Core.List.{List, [], _∷_}
 use mathlib.Core.Path.{_≡_, refl, subst}
 use lib.Dec.{T}
+use borrow.Author.Tests.{not-true}
 use lib.ListN.{length, take, drop, length-drop}
 use lib.Seq.{length-take-le}
 use Rattle.paper.specs.declared.record.Before.{Before}
@@ -19,15 +20,17 @@ use Rattle.paper.specs.Fields.{spells}
 use Rattle.paper.specs.Kinds.{kindOf}
 use Rattle.paper.specs.Records.{inHouse, batchHeader, individual, flaggedIn}
 use Rattle.paper.specs.Controls.{zeros, plus, batchControl, fileControl}
-use Rattle.paper.specs.Reading.{Reckoning, nothingCounted, counted, State, start, flag, beforeNext, lastIndividual, next, fields, recordsOf, reading}
+use Rattle.paper.specs.Reading.{nothingCounted, counted, State, start, flag, beforeNext, lastIndividual, stateNext, next, fields, recordsOf, reading}
 use Rattle.paper.specs.Extract.{Batch, Groups, prepended, grouped, batchesOf}
 use Rattle.paper.specs.Demands.{Faultless}
+use Rattle.paper.proofs.Tests.{of-T}
 use Rattle.paper.proofs.Lists.{Sized}
+use Rattle.paper.proofs.Exactly.{also-l, also-r, need-T}
 use Rattle.paper.proofs.Accepted.{control-read, total-read, Follows, file-begins, batch-opens, file-ends, first-individual, its-additional, next-individual, batch-closes, Judged, judged-facts, accepted-facts}
 use Rattle.paper.proofs.Spelling.{spells-below}
 use Rattle.received.proofs.Written.{Fits}
 use Rattle.received.proofs.Tallies.{noted, tallied, totalled}
-use Rattle.received.proofs.Batches.{Followed, counterAfter, ItemsRead, BatchesRead}
+use Rattle.received.proofs.Batches.{Followed, seenAfter, ItemsRead, BatchesRead}
 
 -- ---- what a control says fits its fields
 
@@ -64,48 +67,50 @@ abbrev pub Reads : Rules → List ℕ → ℕ → List ℕ → Type 0
 Reads rules header previous r = individual (inHouse rules) header previous r ≡ fine
 
 -- between batches: batches
-record Outside (rules : Rules) (c : Reckoning) (g : Groups) : Type 0 where
+record Outside (rules : Rules) (s : State) (g : Groups) : Type 0 where
   additionals : g .additionals ≡ []
   items : g .items ≡ []
-  batches : BatchesRead (Opens rules) (Reads rules) (c .counter) (g .batches)
-  total : Fits 8 (totalled (c .closed) (g .batches))
+  batches : BatchesRead (Opens rules) (Reads rules) (s .seen) (g .batches)
+  total : Fits 8 (totalled (s .counts .closed) (g .batches))
 
 -- in a batch that has counted t: its further items, then batches
-record Within (rules : Rules) (c : Reckoning) (t : Tally) (g : Groups) : Type 0 where
-  items : ItemsRead (Opens rules) (Reads rules) (c .header) (c .counter) (g .items)
+record Within (rules : Rules) (s : State) (t : Tally) (g : Groups) : Type 0 where
+  items : ItemsRead (Opens rules) (Reads rules) (s .counts .header) (s .counter) (s .seen) (g .items)
   fits : Fits 6 (tallied t (g .items))
-  batches : BatchesRead (Opens rules) (Reads rules) (counterAfter (c .counter) (g .items)) (g .batches)
-  total : Fits 8 (totalled (plus (c .closed) (tallied t (g .items))) (g .batches))
+  batches : BatchesRead (Opens rules) (Reads rules) (seenAfter (s .seen) (g .items)) (g .batches)
+  total : Fits 8 (totalled (plus (s .counts .closed) (tallied t (g .items))) (g .batches))
 
-abbrev Ahead : Rules → Before → List ℕ → Reckoning → Groups → Type 0
-Ahead rules Nothing i c g = Outside rules c g
-Ahead rules Between i c g = Outside rules c g
-Ahead rules Opened i c g = Followed false i (g .additionals) × Within rules c (noted (c .batch) (g .additionals)) g
-Ahead rules Flagged i c g = Followed true i (g .additionals) × Within rules c (noted (c .batch) (g .additionals)) g
-Ahead rules Inside i c g = Followed false i (g .additionals) × Within rules c (noted (c .batch) (g .additionals)) g
-Ahead rules Ended i c g = (g .additionals ≡ []) × (g .items ≡ []) × (g .batches ≡ [])
+abbrev InBatch : Rules → Bool → State → Groups → Type 0
+InBatch rules flagged s g = Followed flagged (s .individual) (g .additionals) × Within rules s (noted (s .counts .batch) (g .additionals)) g
+
+abbrev Ahead : Rules → Before → State → Groups → Type 0
+Ahead rules Nothing s g = Outside rules s g
+Ahead rules Between s g = Outside rules s g
+Ahead rules Opened s g = InBatch rules false s g
+Ahead rules Flagged s g = InBatch rules true s g
+Ahead rules Inside s g = InBatch rules false s g
+Ahead rules Ended s g = (g .additionals ≡ []) × (g .items ≡ []) × (g .batches ≡ [])
 
 unfollowed : (i : List ℕ) (xs : List (List ℕ)) → Followed false i xs → xs ≡ []
 unfollowed i [] f = refl
 unfollowed i (x ∷ xs) f = let q : false ≡ true = f .0 in cc
 
-flag-ahead : (rules : Rules) (b : Bool) (i : List ℕ) (c : Reckoning) (g : Groups) → Ahead rules (flag b) i c g
-    → Followed b i (g .additionals) × Within rules c (noted (c .batch) (g .additionals)) g
+flag-ahead : (rules : Rules) (b : Bool) (s : State) (g : Groups) → Ahead rules (flag b) s g → InBatch rules b s g
 unfolding flag
-flag-ahead rules true i c g a = a
-flag-ahead rules false i c g a = a
+flag-ahead rules true s g a = a
+flag-ahead rules false s g a = a
 
 module _ (rules : Rules) (s : State) (r : List ℕ) (l : length r ≡ 94) (g : Groups) (j : Judged (inHouse rules) s r) where
   -- one record back
   abbrev Back : Before → Kind → Type 0
-  Back w k = kindOf r ≡ k → fields k (inHouse rules) s r ≡ fine
-      → Ahead rules (beforeNext k r) (lastIndividual k (s .individual) r) (counted k (s .counts) r) g → Ahead rules w (s .individual) (s .counts) (prepended k r g)
+  Back w k = kindOf r ≡ k → fields k (inHouse rules) s r ≡ fine → Ahead rules (beforeNext k r) (stateNext k s r) g → Ahead rules w s (prepended k r g)
 
   opened : Back Between BatchHeader
-  unfolding beforeNext lastIndividual counted prepended fields noted totalled counterAfter
+  unfolding beforeNext lastIndividual counted prepended fields noted totalled seenAfter
   opened k f a =
       let none = unfollowed (s .individual) (g .additionals) (a .0) in
-      let w : Within rules (counted BatchHeader (s .counts) r) zeros g = subst (λ (xs : List (List ℕ)). Within rules (counted BatchHeader (s .counts) r) (noted zeros xs) g) none (a .1) in
+      let t : State = stateNext BatchHeader s r in
+      let w : Within rules t zeros g = subst (λ (xs : List (List ℕ)). Within rules t (noted zeros xs) g) none (a .1) in
       record {
         additionals = refl;
         items = refl;
@@ -114,20 +119,20 @@ module _ (rules : Rules) (s : State) (r : List ℕ) (l : length r ≡ 94) (g : G
       }
 
   entered : Back Inside Individual
-  unfolding beforeNext lastIndividual counted prepended fields noted tallied totalled counterAfter
+  unfolding beforeNext lastIndividual counted prepended fields noted tallied totalled seenAfter
   entered k f a =
-      let p = flag-ahead rules (flaggedIn r) r (counted Individual (s .counts) r) g a in
+      let p = flag-ahead rules (flaggedIn r) (stateNext Individual s r) g a in
       let w = p .1 in
-      (refl, record { items = (record { kind = k; good = j .good; reads = f; followed = p .0 }, w .items); fits = w .fits; batches = w .batches; total = w .total })
+      (refl, record { items = (record { kind = k; good = j .good; reads = also-l _ _ f; new = not-true _ (of-T _ (need-T _ 27 (also-r _ _ f))); followed = p .0 }, w .items); fits = w .fits; batches = w .batches; total = w .total })
 
   added : Back Flagged Additional
-  unfolding beforeNext lastIndividual counted prepended fields noted tallied totalled counterAfter
+  unfolding beforeNext lastIndividual counted prepended fields noted tallied totalled seenAfter
   added k f a =
       let w = a .1 in
       ((refl, k, j .good, f, unfollowed (s .individual) (g .additionals) (a .0)), record { items = w .items; fits = w .fits; batches = w .batches; total = w .total })
 
   closed : Back Inside BatchControl
-  unfolding beforeNext lastIndividual counted prepended fields noted tallied totalled counterAfter
+  unfolding beforeNext lastIndividual counted prepended fields noted tallied totalled seenAfter
   closed k f a = (
     rw (a .additionals) refl,
     record {
@@ -139,7 +144,7 @@ module _ (rules : Rules) (s : State) (r : List ℕ) (l : length r ≡ 94) (g : G
   )
 
   ended : Back Between FileControl
-  unfolding beforeNext lastIndividual counted prepended fields noted tallied totalled counterAfter
+  unfolding beforeNext lastIndividual counted prepended fields noted tallied totalled seenAfter
   ended k f a = record {
     additionals = a .0;
     items = a .1;
@@ -157,8 +162,7 @@ module _ (rules : Rules) (s : State) (r : List ℕ) (l : length r ≡ 94) (g : G
   back w k next-individual q f a = entered q f a
   back w k batch-closes q f a = closed q f a
 
-ahead : (rules : Rules) (rs : List (List ℕ)) (s : State) → Sized 94 rs → Faultless (inHouse rules) s rs
-    → Ahead rules (s .before) (s .individual) (s .counts) (grouped rs)
+ahead : (rules : Rules) (rs : List (List ℕ)) (s : State) → Sized 94 rs → Faultless (inHouse rules) s rs → Ahead rules (s .before) s (grouped rs)
 unfolding grouped next
 ahead rules [] s z h = rw h (refl, refl, refl)
 ahead rules (r ∷ rs) s z h =
@@ -167,7 +171,7 @@ ahead rules (r ∷ rs) s z h =
 
 -- an accepted file's batches
 pub record Found (rules : Rules) (file : List ℕ) : Type 0 where
-  pub batches : BatchesRead (Opens rules) (Reads rules) 0 (batchesOf file)
+  pub batches : BatchesRead (Opens rules) (Reads rules) [] (batchesOf file)
   pub total : Fits 8 (totalled zeros (batchesOf file))
 
 pub found : (rules : Rules) (file : List ℕ) → reading rules file ≡ accepted → Found rules file

@@ -15,12 +15,12 @@ use Rattle.paper.specs.Records.{inHouse, atDesk, numberGood, batchHeader, count
 use Rattle.paper.specs.Writing.{spelled, numbered}
 use Rattle.paper.specs.Extract.{isTo}
 use Rattle.paper.proofs.Tests.{and-l, and-r, T-of, and-both}
-use Rattle.paper.proofs.Exactly.{also-l, also-r, need-T}
+use Rattle.paper.proofs.Exactly.{also-l, also-r, need-T, fine-also, need-met}
 use Rattle.paper.proofs.Normal.{field-front, field-numbered}
 use Rattle.paper.proofs.Every.{every-both}
 use Rattle.paper.proofs.Spelling.{spells-own}
 use Rattle.received.proofs.Characters.{good-spelled}
-use Rattle.received.proofs.Written.{fine-also, need-met, good-part}
+use Rattle.received.proofs.Written.{good-part}
 
 -- ---- 6
 

@@ -19,14 +19,14 @@ use Rattle.paper.specs.Records.{inHouse, atDesk, originGood, ownDesk, headed, f
 use Rattle.paper.specs.Writing.{spelled, joined}
 use Rattle.paper.specs.Extract.{headerFor}
 use Rattle.paper.proofs.Tests.{of-T, and-both}
-use Rattle.paper.proofs.Exactly.{also-l, also-r}
+use Rattle.paper.proofs.Exactly.{also-l, also-r, fine-also, need-met}
 use Rattle.paper.proofs.Lists.{length-spelled}
 use Rattle.paper.proofs.Shared.{within-of}
 use Rattle.paper.proofs.Every.{every-both}
 use Rattle.paper.proofs.Spelling.{digits-spelled, value-spelled}
 use Rattle.received.proofs.Characters.{good-spelled}
 use Rattle.received.proofs.Pieces.{Wide, part-at, part-inner, piece-at, every-joined, offset}
-use Rattle.received.proofs.Written.{fine-also, need-met, good-part}
+use Rattle.received.proofs.Written.{good-part}
 
 -- ---- the entity's own field
 

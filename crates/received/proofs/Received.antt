@@ -2,7 +2,7 @@
 use Prim.Native.Nat.{ℕ, _+_, _*_, _≤_, _/_, _%_}
 use native.Mathlib.Omega.{arith}
 use mathlib.Core.Bool.{false, _&&_}
-use mathlib.Core.List.{List}
+use mathlib.Core.List.{List, []}
 use mathlib.Core.Path.{_≡_, refl, ap, _∙_}
 use lib.Dec.{T}
 use lib.ListN.{length, getD, take}
@@ -15,7 +15,7 @@ use Rattle.paper.specs.Fields.{within, every, good}
 use Rattle.paper.specs.Kinds.{allowed}
 use Rattle.paper.specs.Records.{atDesk}
 use Rattle.paper.specs.Controls.{zeros}
-use Rattle.paper.specs.Reading.{nothingCounted, counted, State, start, beforeNext, fields, recordsOf, lengthGood, readingBy, reading}
+use Rattle.paper.specs.Reading.{nothingCounted, counted, State, start, beforeNext, stateNext, fields, recordsOf, lengthGood, readingBy, reading}
 use Rattle.paper.specs.Writing.{settled}
 use Rattle.paper.specs.Extract.{Batch, itemRecords, itemsTo, batchesOf, batchesTo, headerFor, extract}
 use Rattle.paper.specs.Buffers.{entityGiven}
@@ -34,7 +34,7 @@ use Rattle.received.proofs.Heading.{heading-good, heading-fine}
 use Rattle.received.proofs.Tallies.{fits-most, most-own, totalled-to}
 use Rattle.received.proofs.Found.{found}
 use Rattle.received.proofs.Chosen.{batches-chosen}
-use Rattle.received.proofs.Steps.{after, next-after, judged-fine}
+use Rattle.received.proofs.Steps.{next-after, judged-fine}
 use Rattle.received.proofs.Walk.{Reached, batches-run}
 
 -- an extract's length is good, and it has at most 10,000 records
@@ -63,16 +63,16 @@ extract-faultless rules e file low high h =
     let x : List ℕ = headerFor (rules .currency) e r in
     let cut = extract-cut rules e file h in
     let k = cut .header .0 in
-    let t : State = after FileHeader start x in
+    let t : State = stateNext FileHeader start x in
     let all = found rules file h in
-    let reads = batches-chosen rules e bs 0 0 (omega arith) (all .batches) in
+    let reads = batches-chosen rules e bs [] [] (λ n h. h) (all .batches) in
     let total = fits-most (totalled-to e bs zeros zeros (most-own zeros)) (all .total) in
     let room : length (recordsOf (extract (rules .currency) e file)) ≤ 10000 = extract-sized rules e file h .1 in
     let count = ap length (cut .records) in
-    let opened : Reached t 0 0 zeros = record { counter = refl; batches = refl; closed = refl; ready = refl } in
+    let opened : Reached t [] 0 zeros = record { seen = refl; batches = refl; closed = refl; ready = refl } in
     rw (cut .records, next-after start x FileHeader k) (
       judged-fine (atDesk e rules) start x FileHeader k (heading-good (rules .currency) e r l good) refl (heading-fine (rules .currency) e r l rules refl low high (header-read rules file h)),
-      batches-run rules e (batchesTo e bs) t 0 0 zeros opened reads total (omega arith) (omega arith),
+      batches-run rules e (batchesTo e bs) t [] 0 zeros opened reads total (omega arith) (omega arith),
     )
 
 pub extract-received : (rules : Rules) (e : ℕ) (file : List ℕ) → entityGiven rules e ≡ accepted → reading rules file ≡ accepted

@@ -13,16 +13,13 @@ use Rattle.paper.specs.Fields.{every, good}
 use Rattle.paper.specs.Kinds.{kind, kindOf, allowed}
 use Rattle.paper.specs.Records.{ReadingRules, batchHeader}
 use Rattle.paper.specs.Controls.{blocks, fileControl}
-use Rattle.paper.specs.Reading.{Reckoning, counted, State, beforeNext, lastIndividual, next, fields, judged}
+use Rattle.paper.specs.Reading.{Reckoning, counted, State, beforeNext, stateNext, next, fields, judged}
 use Rattle.paper.specs.Writing.{batchControlOf, fileControlOf, owed, settled, owedBefore, settledBefore, ending, withControls}
 use Rattle.paper.specs.Demands.{Faultless}
-use Rattle.received.proofs.Written.{fine-also, need-met, Fits, batch-control-kind, batch-control-fine, batch-control-good, file-control-kind, file-control-fine, file-control-good}
+use Rattle.paper.proofs.Exactly.{fine-also, need-met}
+use Rattle.received.proofs.Written.{Fits, batch-control-kind, batch-control-fine, batch-control-good, file-control-kind, file-control-fine, file-control-good}
 
--- the state after a record of a kind
-abbrev pub after : Kind → State → List ℕ → State
-after k t r = record { before = beforeNext k r; individual = lastIndividual k (t .individual) r; counts = counted k (t .counts) r }
-
-pub next-after : (t : State) (r : List ℕ) (k : Kind) → kindOf r ≡ k → next t r ≡ after k t r
+pub next-after : (t : State) (r : List ℕ) (k : Kind) → kindOf r ≡ k → next t r ≡ stateNext k t r
 unfolding next
 next-after t r k q = rw q
 
@@ -57,7 +54,7 @@ module _ (rules : ReadingRules) where
   -- a record before which no control is owed
   pub step : (t : State) (r : List ℕ) (rs : List (List ℕ)) (k : Kind) → kindOf r ≡ k → owedBefore k (t .counts) ≡ [] → settledBefore k (t .counts) ≡ t .counts
       → counted k (t .counts) r .batches ≡ t .counts .batches → counted k (t .counts) r .place ≡ t .counts .place + 1
-      → judged rules t r ≡ fine → Runs (after k t r) rs → Runs t (r ∷ rs)
+      → judged rules t r ≡ fine → Runs (stateNext k t r) rs → Runs t (r ∷ rs)
   unfolding withControls
   step t r rs k q o s b p j later few room =
       let left = rw (q, o, s) at room in
@@ -65,23 +62,23 @@ module _ (rules : ReadingRules) where
 
   -- ---- the control that is owed
 
-  settle : (t : State) (n : ℕ) → Closable n t → (rs : List (List ℕ)) → ((u : State) → u .before ≡ Between → u .counts ≡ settled n (t .counts) → Faultless rules u rs)
+  settle : (t : State) (n : ℕ) → Closable n t → (rs : List (List ℕ)) → ((u : State) → u .before ≡ Between → u .seen ≡ t .seen → u .counts ≡ settled n (t .counts) → Faultless rules u rs)
       → Faultless rules t (owed n (t .counts) ++ rs)
   unfolding owed settled allowed beforeNext counted fields
-  settle t zero c rs later = later t c refl
+  settle t zero c rs later = later t c refl refl
   settle t (suc n) c rs later =
       let h : List ℕ = t .counts .header in
       let r : List ℕ = batchControlOf h (t .counts .batch) in
       let kind = batch-control-kind h (t .counts .batch) (c .2) in (
         judged-fine t r BatchControl kind (batch-control-good h (t .counts .batch) (c .2) (c .3)) (rw (c .0) refl) (batch-control-fine h (t .counts .batch) (c .2) (c .1)),
-        rw (next-after t r BatchControl kind) (later (after BatchControl t r) refl refl),
+        rw (next-after t r BatchControl kind) (later (stateNext BatchControl t r) refl refl refl),
       )
 
   -- ---- a batch header, after the control of the batch before it
 
   pub head : (t : State) (r : List ℕ) (rs : List (List ℕ)) → kindOf r ≡ BatchHeader → Closable (t .counts .batches) t → T (every good r)
       → (t .counts .batches < 10000 → batchHeader rules (t .counts .batches) r ≡ fine)
-      → ((u : State) → u .counts ≡ settled (t .counts .batches) (t .counts) → Runs (after BatchHeader u r) rs) → Runs t (r ∷ rs)
+      → ((u : State) → u .seen ≡ t .seen → u .counts ≡ settled (t .counts .batches) (t .counts) → Runs (stateNext BatchHeader u r) rs) → Runs t (r ∷ rs)
   unfolding withControls owedBefore settledBefore counted allowed fields
   head t r rs q c g f later few room =
       let n : ℕ = t .counts .batches in
@@ -90,12 +87,12 @@ module _ (rules : ReadingRules) where
       let left = length-append (owed n (t .counts)) (r ∷ rest d) in
       let most = rw q at room in
       rw q
-      (settle t n c (r ∷ rest d) (λ u w e.
+      (settle t n c (r ∷ rest d) (λ u w o e.
       let b : u .counts .batches ≡ n = ap (λ (x : Reckoning). x .batches) e ∙ settled-kept (λ x. x .batches) (λ x. refl) n (t .counts) in
       let p : u .counts .place ≡ t .counts .place + length (owed n (t .counts)) = ap (λ (x : Reckoning). x .place) e ∙ settled-place n (t .counts) in
       let same : length (rest (u .counts)) ≡ length (rest d) = ap (λ (x : Reckoning). length (rest x)) e in
-      let ran : Faultless rules (after BatchHeader u r) (rest d) =
-      subst (λ (x : Reckoning). Faultless rules (after BatchHeader u r) (rest x)) e (later u e (omega arith) (omega arith)) in
+      let ran : Faultless rules (stateNext BatchHeader u r) (rest d) =
+      subst (λ (x : Reckoning). Faultless rules (stateNext BatchHeader u r) (rest x)) e (later u o e (omega arith) (omega arith)) in
       (judged-fine u r BatchHeader q g (rw w refl) (rw b (f (omega arith))), rw (next-after u r BatchHeader q) ran)
       ))
 
@@ -112,7 +109,7 @@ module _ (rules : ReadingRules) where
       let b = settled-kept (λ x. x .batches) (λ x. refl) n (t .counts) in
       let p = settled-place n (t .counts) in
       let right : fileControl (d .place + 1) (d .batches) (d .closed) r ≡ fine = file-control-fine (d .place + 1) (d .batches) (d .closed) (omega arith) (omega arith) f in
-      settle t n c (r ∷ []) (λ u w e.
+      settle t n c (r ∷ []) (λ u w o e.
       let mine = subst (λ (x : Reckoning). fileControl (x .place + 1) (x .batches) (x .closed) r ≡ fine) (sym e) right in
       (judged-fine u r FileControl kind (file-control-good (d .place + 1) (d .batches) (d .closed)) (rw w refl) mine, ap (λ (x : State). x .before) (next-after u r FileControl kind))
       )

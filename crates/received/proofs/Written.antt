@@ -12,24 +12,13 @@ use Rattle.paper.specs.Fields.{bytes, field, every, good, among, same}
 use Rattle.paper.specs.Kinds.{kind, kindOf}
 use Rattle.paper.specs.Controls.{batchControl, blocks, fileControl}
 use Rattle.paper.specs.Writing.{spelled, blanks, joined, batchControlOf, fileControlOf}
+use Rattle.paper.proofs.Exactly.{fine-also, need-met}
 use Rattle.paper.proofs.Lists.{length-spelled}
 use Rattle.paper.proofs.Tests.{and-both}
 use Rattle.paper.proofs.Every.{every-drop, every-take}
 use Rattle.paper.proofs.Spelling.{spells-last, spells-own}
 use Rattle.received.proofs.Characters.{good-spelled, good-blanks}
 use Rattle.received.proofs.Pieces.{Wide, piece-at, every-joined}
-
--- ---- a chain of checks without fault
-
-pub fine-also : (a b : Check) → a ≡ fine → b ≡ fine → a also b ≡ fine
-unfolding _also_
-fine-also fine b p q = q
-fine-also (wrong n) b p q = p
-
-pub need-met : (b : Bool) (n : ℕ) → T b → need b n ≡ fine
-unfolding need
-need-met true n t = refl
-need-met false n t = absurd t
 
 pub same-own : (a b : List ℕ) → a ≡ b → T (same a b)
 unfolding same

@@ -1,3 +1,4 @@
 pub mod Once
 pub mod Steps
 pub mod Entering
+pub mod Numbering

@@ -4,10 +4,10 @@ ghost use Rattle.paper.specs.Records.{ReadingRules};
 ghost use Rattle.state.specs.States.{Ready, Steps};
 use crate::State;
 use crate::Step;
-use controls::tally;
 use entries::additional;
+use entries::individual::Entry;
 use field::place::record_at;
-use paper::record::Before;
+use paper::record::Kind;
 use verdicts::verdict::Verdict;
 
 pub fn step(file: &[u8], place: usize, state: State) -> Step
@@ -17,19 +17,13 @@ pub fn step(file: &[u8], place: usize, state: State) -> Step
     let rec = record_at(file, place);
     let individual = record_at(file, state.individual);
     match additional::judge(individual, rec) {
-        Verdict::Right => {
-            let batch = state.batch;
-            let closed = state.closed;
-            Step::Next(State {
-                before: Before::Inside,
-                header: state.header,
-                individual: state.individual,
-                counter: state.counter,
-                batches: state.batches,
-                batch: tally::with_additional(batch),
-                closed: closed,
-            })
-        }
+        Verdict::Right => Step::Next(state.after(
+            Kind::Additional,
+            place,
+            Entry::NONE,
+            false,
+            state.fresh,
+        )),
         Verdict::Wrong(fault) => Step::Stop(fault),
     }
 }

@@ -5,9 +5,9 @@ ghost use Rattle.state.specs.States.{Ready, Steps};
 use crate::State;
 use crate::Step;
 use controls::batch_control;
-use controls::tally;
+use entries::individual::Entry;
 use field::place::record_at;
-use paper::record::Before;
+use paper::record::Kind;
 use verdicts::verdict::Verdict;
 
 pub fn step(file: &[u8], place: usize, state: State) -> Step
@@ -18,18 +18,13 @@ pub fn step(file: &[u8], place: usize, state: State) -> Step
     let header = record_at(file, state.header);
     let batch = state.batch;
     match batch_control::judge(header, batch, rec) {
-        Verdict::Right => {
-            let closed = state.closed;
-            Step::Next(State {
-                before: Before::Between,
-                header: state.header,
-                individual: state.individual,
-                counter: state.counter,
-                batches: state.batches,
-                batch: batch,
-                closed: tally::plus(closed, batch),
-            })
-        }
+        Verdict::Right => Step::Next(state.after(
+            Kind::BatchControl,
+            place,
+            Entry::NONE,
+            false,
+            state.fresh,
+        )),
         Verdict::Wrong(fault) => Step::Stop(fault),
     }
 }

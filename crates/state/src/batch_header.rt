@@ -4,10 +4,10 @@ ghost use Rattle.verdicts.specs.Verdicts.{under};
 ghost use Rattle.state.specs.States.{Ready, Steps};
 use crate::State;
 use crate::Step;
-use controls::tally;
+use entries::individual::Entry;
 use field::place::record_at;
 use headers::batch_header;
-use paper::record::Before;
+use paper::record::Kind;
 use paper::rules::Rules;
 use paper::rules::Terms;
 use verdicts::verdict::Verdict;
@@ -24,18 +24,13 @@ pub fn step(
 {
     let rec = record_at(file, place);
     match batch_header::judge(terms, roster, state.batches, rec) {
-        Verdict::Right => {
-            let closed = state.closed;
-            Step::Next(State {
-                before: Before::Opened,
-                header: place,
-                individual: state.individual,
-                counter: state.counter,
-                batches: state.batches + 1,
-                batch: tally::NONE,
-                closed: closed,
-            })
-        }
+        Verdict::Right => Step::Next(state.after(
+            Kind::BatchHeader,
+            place,
+            Entry::NONE,
+            false,
+            state.fresh,
+        )),
         Verdict::Wrong(fault) => Step::Stop(fault),
     }
 }

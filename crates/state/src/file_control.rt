@@ -5,8 +5,9 @@ ghost use Rattle.state.specs.States.{Ready, Steps};
 use crate::State;
 use crate::Step;
 use controls::file_control;
+use entries::individual::Entry;
 use field::place::record_at;
-use paper::record::Before;
+use paper::record::Kind;
 use verdicts::verdict::Verdict;
 
 pub fn step(file: &[u8], place: usize, state: State) -> Step
@@ -17,18 +18,13 @@ pub fn step(file: &[u8], place: usize, state: State) -> Step
     let all = place as u64 + 1;
     let closed = state.closed;
     match file_control::judge(all, state.batches, closed, rec) {
-        Verdict::Right => {
-            let batch = state.batch;
-            Step::Next(State {
-                before: Before::Ended,
-                header: state.header,
-                individual: state.individual,
-                counter: state.counter,
-                batches: state.batches,
-                batch: batch,
-                closed: closed,
-            })
-        }
+        Verdict::Right => Step::Next(state.after(
+            Kind::FileControl,
+            place,
+            Entry::NONE,
+            false,
+            state.fresh,
+        )),
         Verdict::Wrong(fault) => Step::Stop(fault),
     }
 }

@@ -4,9 +4,10 @@ ghost use Rattle.verdicts.specs.Verdicts.{under};
 ghost use Rattle.state.specs.States.{Ready, Steps};
 use crate::State;
 use crate::Step;
+use entries::individual::Entry;
 use field::place::record_at;
 use headers::file_header;
-use paper::record::Before;
+use paper::record::Kind;
 use paper::rules::Rules;
 use paper::rules::Terms;
 use verdicts::verdict::Verdict;
@@ -23,19 +24,13 @@ pub fn step(
 {
     let rec = record_at(file, place);
     match file_header::judge(terms, roster, rec) {
-        Verdict::Right => {
-            let batch = state.batch;
-            let closed = state.closed;
-            Step::Next(State {
-                before: Before::Between,
-                header: state.header,
-                individual: state.individual,
-                counter: state.counter,
-                batches: state.batches,
-                batch: batch,
-                closed: closed,
-            })
-        }
+        Verdict::Right => Step::Next(state.after(
+            Kind::FileHeader,
+            place,
+            Entry::NONE,
+            false,
+            state.fresh,
+        )),
         Verdict::Wrong(fault) => Step::Stop(fault),
     }
 }

@@ -4,12 +4,13 @@ ghost use Rattle.verdicts.specs.Verdicts.{under};
 ghost use Rattle.state.specs.States.{Ready, Steps};
 use crate::State;
 use crate::Step;
-use crate::flag;
-use controls::tally;
+use crate::numbers;
+use crate::numbers::Number;
 use entries::individual::Judged;
 use field::individual;
-use field::kind;
 use field::place::record_at;
+use paper::answer::Fault;
+use paper::record::Kind;
 use paper::rules::Rules;
 use paper::rules::Terms;
 
@@ -27,23 +28,13 @@ pub fn step(
     let header = record_at(file, state.header);
     match entries::individual::judge(terms, roster, header, state.counter, rec) {
         Judged::Good(entry) => {
-            let code = entry.code;
-            let batch = state.batch;
-            let closed = state.closed;
-            Step::Next(State {
-                before: flag(individual::flagged(rec)),
-                header: state.header,
-                individual: place,
-                counter: entry.counter,
-                batches: state.batches,
-                batch: tally::with_entry(
-                    batch,
-                    entry.destination,
-                    kind::collects(code),
-                    entry.amount,
-                ),
-                closed: closed,
-            })
+            match numbers::judge(file, place, entry.counter, state.highest, state.fresh) {
+                Number::New(fresh) => {
+                    let flagged = individual::flagged(rec);
+                    Step::Next(state.after(Kind::Individual, place, entry, flagged, fresh))
+                }
+                Number::Repeated => Step::Stop(Fault::Counter),
+            }
         }
         Judged::Wrong(fault) => Step::Stop(fault),
     }

@@ -1,18 +1,25 @@
 // What the next record finds before it, and the state after a record of each kind.
 ghost use mathlib.Core.Path.{_≡_};
-ghost use Rattle.paper.specs.Reading.{flag};
+ghost use mathlib.Core.List.{List};
+ghost use Prim.Native.Nat.{ℕ, _^_, _<_};
+ghost use Rattle.paper.specs.Reading.{flag, recordAt};
+ghost use Rattle.state.specs.States.{RoomToCount, Ready, EntryTold, Knows, Advances};
 use controls::tally;
+use entries::individual::Entry;
 use field::place::Record;
 use paper::answer::Fault;
 use paper::record::Before;
+use paper::record::Kind;
 use paper::record::Tally;
 
 pub mod additional;
 pub mod batch_control;
 pub mod batch_header;
+pub mod columns;
 pub mod file_control;
 pub mod file_header;
 pub mod individual;
+pub mod numbers;
 
 // Records are held by their places in the file.
 pub struct State {
@@ -21,8 +28,12 @@ pub struct State {
     pub header: usize,
     // the last individual record
     pub individual: usize,
-    // the number in 88-94 of that record, 0 before the first
+    // the number in 88-94 of that record, 0 as long as its batch has none
     pub counter: u64,
+    // the largest of the batches before, 0 before the first
+    pub highest: u64,
+    // up to this place numbers are known to be new; 0 as long as nobody looked
+    pub fresh: usize,
     pub batches: u64,
     // what the batch's control counts
     pub batch: Tally,
@@ -45,10 +56,33 @@ impl State {
         header: State::NOWHERE,
         individual: State::NOWHERE,
         counter: 0,
+        highest: 0,
+        fresh: 0,
         batches: 0,
         batch: tally::NONE,
         closed: tally::NONE,
     };
+
+    // After a record of a kind without fault; numbers are known to be new up to `fresh`.
+    pub fn after(self, kind: Kind, place: usize, entry: Entry, flagged: bool, fresh: usize) -> State
+        requires { ⌜ (place < 10000) × RoomToCount place self ⌝ }
+        requires { ⌜ (entry .destination < 10 ^ 8) × (entry .amount < 10 ^ 10) ⌝ }
+        ensures { λ r. ⌜ ((file : List ℕ) → Ready kind file place self → EntryTold kind (self .counter) (recordAt file place) entry flagged → Knows kind file place self fresh → Advances kind file place self r) ⌝ }
+    {
+        let batch = self.batch;
+        let closed = self.closed;
+        State {
+            before: columns::before(kind, flagged),
+            header: columns::header(kind, self.header, place),
+            individual: columns::individual(kind, self.individual, place),
+            counter: columns::counter(kind, self.counter, entry.counter),
+            highest: columns::highest(kind, self.highest, self.counter),
+            fresh: fresh,
+            batches: columns::batches(kind, self.batches),
+            batch: columns::batch(kind, batch, entry),
+            closed: columns::closed(kind, closed, batch),
+        }
+    }
 }
 
 // After an individual record.

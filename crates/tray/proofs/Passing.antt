@@ -9,9 +9,8 @@ use lib.ListN.{length, drop}
 use Rattle.paper.specs.declared.record.Kind.{Kind}
 use Rattle.paper.specs.declared.record.Kind.the-variants.{FileHeader, BatchHeader, Individual, Additional, BatchControl, FileControl, Other}
 use Rattle.paper.specs.Answers.{accepted, refused, andThen, require}
-use Rattle.paper.specs.Kinds.{kindOf}
+use Rattle.paper.specs.Kinds.{opensBatch, kindOf}
 use Rattle.paper.specs.Trays.{trayRecords, trayRecordGood, trayFault, batchesAfter}
-use Rattle.batches.specs.Blocks.{opensBatch}
 use Rattle.tray.specs.Trays.{trayRecordAt, bodyAt, bodies, batchesIn}
 use Rattle.tray.proofs.Places.{records-at, records-none, bodies-at, bodies-none}
 
@@ -34,7 +33,7 @@ module _ (tray : List ℕ) (i : ℕ) where
 -- ---- batches
 
 opened : (k : Kind) (b : ℕ) → batchesAfter k b ≡ cond (opensBatch k) (b + 1) b
-unfolding opensBatch batchesAfter
+unfolding batchesAfter
 opened FileHeader b = refl
 opened BatchHeader b = sym (add-one b)
 opened Individual b = refl

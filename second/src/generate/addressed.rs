@@ -3,6 +3,7 @@
 use super::draft::{put_number, Draft};
 use super::entities::{any_currency, entity_field, relation, roster_with};
 use super::good::{any_date, Amounts, Maker, CODES, MODEST};
+use super::numbering::renumber_some;
 use super::random::Random;
 use crate::{Currency, Rules};
 
@@ -137,6 +138,12 @@ impl<'r, 'm> Sender<'r, 'm> {
     }
 }
 
+/// The counters of some files fall.
+fn renumbered(random: &mut Random, mut addressed: Addressed) -> Addressed {
+    renumber_some(random, &mut addressed.draft);
+    addressed
+}
+
 /// Up to eight batches, of which every one, some, one or none holds a record to the entity.
 pub fn addressed_file(random: &mut Random) -> Addressed {
     let members = Members::any(random);
@@ -154,7 +161,8 @@ pub fn addressed_file(random: &mut Random) -> Addressed {
         };
         add_batch(&mut sender, holds);
     }
-    sender.finish()
+    let addressed = sender.finish();
+    renumbered(random, addressed)
 }
 
 /// A few records, at least one of them to the entity where the batch is to hold one.
@@ -190,7 +198,8 @@ pub fn rejected_file(random: &mut Random) -> Addressed {
         }
         sender.maker.batch_control();
     }
-    sender.finish()
+    let addressed = sender.finish();
+    renumbered(random, addressed)
 }
 
 /// Header and control, and nobody addressed.

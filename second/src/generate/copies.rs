@@ -1,6 +1,7 @@
 //! Damaged copies of good files, for sessions that stay as they are.
 
 use super::case::{refused, Answer};
+use super::counters::put_counter_fault;
 use super::damage::put_fault;
 use super::draft::Draft;
 use super::faults::Kind;
@@ -13,7 +14,8 @@ pub fn damaged_copy(random: &mut Random, good: &Draft) -> (&'static str, Vec<u8>
         let mut draft = good.clone();
         let with_batches = draft.records.len() > 2;
         let (kind, answer) = match random.below(8) {
-            0..=3 if with_batches => ("fault", put_fault(random, &mut draft, &Kind::ALL)),
+            0..=2 if with_batches => ("fault", put_fault(random, &mut draft, &Kind::ALL)),
+            3 if with_batches => ("counter", put_counter_fault(random, &mut draft)),
             0..=5 => disorder(random, &mut draft),
             6 => return flipped_copy(random, good),
             _ => {

@@ -1,10 +1,11 @@
 //! Faults of the table, applied to a draft: one, or two for the order of checks.
 
 use super::case::{refused, Answer, Case};
-use super::draft::{get_number, put, put_number, Draft};
+use super::draft::{get_number, put, put_number, Draft, Record};
 use super::entities::{field_number, named_in, relation};
 use super::faults::{Check, Kind, Way, NO_DATES};
 use super::good::{any_date, file_with_batches, CODES};
+use super::numbering::renumber_some;
 use super::random::{Random, CHARACTERS};
 
 /// A fault chosen from the table for one record of a draft.
@@ -47,8 +48,15 @@ impl Fault {
     }
 }
 
-pub fn one_fault(random: &mut Random) -> Case {
+/// A good file with at least one batch; the counters of some fall.
+fn sound_file(random: &mut Random) -> Draft {
     let mut draft = file_with_batches(random);
+    renumber_some(random, &mut draft);
+    draft
+}
+
+pub fn one_fault(random: &mut Random) -> Case {
+    let mut draft = sound_file(random);
     let refusal = put_fault(random, &mut draft, &Kind::ALL);
     Case::of("one fault", &draft, refusal)
 }
@@ -99,7 +107,7 @@ fn any_body_fault(random: &mut Random, draft: &Draft, kinds: &[Kind]) -> Fault {
 }
 
 pub fn two_faults_in_one_record(random: &mut Random) -> Case {
-    let draft = file_with_batches(random);
+    let draft = sound_file(random);
     two_in_one_record(random, draft, &Kind::ALL)
 }
 
@@ -128,7 +136,7 @@ pub fn two_in_one_record(random: &mut Random, mut draft: Draft, kinds: &[Kind]) 
 }
 
 pub fn two_faults_in_two_records(random: &mut Random) -> Case {
-    let draft = file_with_batches(random);
+    let draft = sound_file(random);
     two_in_two_records(random, draft, &Kind::ALL)
 }
 
@@ -202,7 +210,7 @@ fn apply(random: &mut Random, draft: &mut Draft, fault: &Fault) {
         }
         Way::OtherDate | Way::SharedNoDate => change_date(random, draft, fault),
         Way::WrongInformation | Way::FlagMissing => entangle(random, draft, fault),
-        Way::CounterEqual | Way::CounterFalling | Way::CounterZero => {
+        Way::CounterEqual | Way::CounterFalling | Way::CounterRepeated | Way::CounterZero => {
             turn_back_counter(random, draft, fault)
         }
         Way::OneMore | Way::OneLess => count_otherwise(draft, fault),
@@ -325,15 +333,24 @@ fn entangle(random: &mut Random, draft: &mut Draft, fault: &Fault) {
     put(record, 79, b"0");
 }
 
+/// A counter that cannot stand at this place, whatever the counters before it are.
 fn turn_back_counter(random: &mut Random, draft: &mut Draft, fault: &Fault) {
-    let before = draft.last_before(fault.place, b'6');
-    let last = before.map_or(0, |place| get_number(&draft.records[place], 88, 94));
-    let sequence = match fault.way {
-        Way::CounterEqual => last,
-        Way::CounterFalling => random.below(last as usize + 1) as u64,
-        _ => 0,
+    let earlier = &draft.records[..fault.place];
+    let is_individual = |record: &&Record| record[0] == b'6';
+    let in_file: Vec<&Record> = earlier.iter().filter(is_individual).collect();
+    let in_batch = earlier.rsplit(|record| record[0] == b'5').next();
+    let in_batch = in_batch.unwrap_or(&[]).iter().rfind(is_individual);
+    let counter_of = |record: &Record| get_number(record, 88, 94);
+    let counter = match (fault.way, in_file.last(), in_batch) {
+        (Way::CounterZero, ..) | (_, None, _) => 0,
+        (Way::CounterEqual, Some(before), _) => counter_of(before),
+        // Across batches a lower counter is good, unless it was there before.
+        (Way::CounterFalling, _, Some(before)) => {
+            random.below(counter_of(before) as usize + 1) as u64
+        }
+        _ => counter_of(in_file[random.below(in_file.len())]),
     };
-    put_number(&mut draft.records[fault.place], 88, 94, sequence);
+    put_number(&mut draft.records[fault.place], 88, 94, counter);
 }
 
 /// One more or one less, going round at the ends of the field.
@@ -377,7 +394,7 @@ mod tests {
     fn each_fault_of_the_table_gets_its_number() {
         let house = Reading {
             make: |random| Handed {
-                draft: file_with_batches(random),
+                draft: sound_file(random),
                 entity: 0,
             },
             read: |file| read(&file.draft.rules, &file.draft.bytes()),

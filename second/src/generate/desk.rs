@@ -5,6 +5,7 @@ use super::copies::damaged_copy;
 use super::draft::{get_number, Draft};
 use super::entities::{named_in, other_currency, put_origin, relation, some_entities};
 use super::good::{any_date, long_file, small_file};
+use super::numbering::renumber_some;
 use super::opening::Opened;
 use super::random::Random;
 use crate::day::Day;
@@ -213,15 +214,19 @@ impl<'r> Desk<'r> {
 
     /// Small for the most part, so that thousands of days run in seconds.
     fn draft(&mut self) -> Draft {
-        if self.random.once_in(150) {
+        let mut draft = if self.random.once_in(150) {
             let records = self.random.between(50, 400);
-            return long_file(self.random, &self.rules, &self.members, records);
-        }
-        small_file(self.random, &self.rules, &self.members)
+            long_file(self.random, &self.rules, &self.members, records)
+        } else {
+            small_file(self.random, &self.rules, &self.members)
+        };
+        renumber_some(self.random, &mut draft);
+        draft
     }
 
     pub fn file_from(&mut self, origin: usize, identifier: u8) -> Draft {
         let mut draft = small_file(self.random, &self.rules, &self.members);
+        renumber_some(self.random, &mut draft);
         put_origin(self.random, &mut draft, origin);
         draft.records[0][33] = identifier;
         draft

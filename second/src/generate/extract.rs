@@ -11,6 +11,7 @@ use super::files::{any_generated, generate};
 use super::large;
 use super::lending::{written_after, Input, Lending};
 use super::meant::{extract_length, extract_of};
+use super::numbering::renumber_some;
 use super::opening::some_opening;
 use super::random::{Random, EXTRACTS};
 use super::room::any_size;
@@ -125,7 +126,9 @@ fn large_source(random: &mut Random, number: u64) -> Source {
         9 => (ALL, Share::OneIn(1_000)),
         _ => (SEVERAL, Share::All),
     };
-    good("10,000 records", shared_file(random, FULL, each, share))
+    let mut addressed = shared_file(random, FULL, each, share);
+    renumber_some(random, &mut addressed.draft);
+    good("10,000 records", addressed)
 }
 
 /// Those whom the file names for the most part; then others, and numbers of nobody.

@@ -129,8 +129,12 @@ pub enum Way {
     WrongInformation,
     /// No flag where an additional is due.
     FlagMissing,
+    /// The counter of the individual record before, in whichever batch.
     CounterEqual,
+    /// One that does not exceed that of the record before in the same batch; the first of a batch repeats any.
     CounterFalling,
+    /// That of any earlier individual record of the file.
+    CounterRepeated,
     CounterZero,
     OneMore,
     OneLess,
@@ -189,6 +193,7 @@ const NOT_01: Way = Texts(&[b"00", b"10", b"02", b" 1", b"1 ", b"  ", b"O1"]);
 const NOT_094101: Way = Texts(&[b"094100", b"094110", b"095101", b"09410 ", b" 94101"]);
 const NOT_99: Way = Texts(&[b"05", b"98", b"  ", b"9 ", b"00", b"09"]);
 const NOT_05: Way = Texts(&[b"99", b"04", b"  ", b"0 ", b" 5", b"50"]);
+const COUNTER: &[Way] = &[CounterEqual, CounterFalling, CounterRepeated, CounterZero];
 const OTHER_COUNTER: &[Way] = &[Other, OtherDigit, OneMore, OneLess, Blanks];
 const SUM: &[Way] = &[
     OneMore,
@@ -250,7 +255,7 @@ const INDIVIDUAL: &[Check] = &[
     check(25, 79, 79, &[FlagMissing]),
     check(17, 80, 94, NO_DIGITS),
     check(27, 80, 87, &[OtherDigit]),
-    check(27, 88, 94, &[CounterEqual, CounterFalling, CounterZero]),
+    check(27, 88, 94, COUNTER),
 ];
 
 const MOTIVE: &[Check] = &[
@@ -346,5 +351,5 @@ const HANDED_INDIVIDUAL: &[Check] = &[
     check(25, 79, 79, &[FlagMissing]),
     check(17, 80, 94, NO_DIGITS),
     check(27, 80, 87, &[OtherDigit]),
-    check(27, 88, 94, &[CounterEqual, CounterFalling, CounterZero]),
+    check(27, 88, 94, COUNTER),
 ];

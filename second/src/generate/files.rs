@@ -1,6 +1,7 @@
 //! Files for the reading: all families in turn.
 
 use super::case::Case;
+use super::counters::counter_file;
 use super::good::any_file;
 use super::random::{Random, FLIPS};
 use super::{damage, large, lengths, session, structure, sums};
@@ -13,10 +14,11 @@ pub fn generate(seed: u64, number: u64) -> Case {
     };
     let (round, family) = (number / 24, number % 24);
     match family {
-        0..=3 => Case::good("good", &any_file(&mut random)),
-        4..=8 => damage::one_fault(&mut random),
-        9 | 10 => damage::two_faults_in_one_record(&mut random),
-        11 | 12 => damage::two_faults_in_two_records(&mut random),
+        0 => Case::good("good", &any_file(&mut random)),
+        1..=3 => damage::one_fault(&mut random),
+        4 | 5 => damage::two_faults_in_one_record(&mut random),
+        6 | 7 => damage::two_faults_in_two_records(&mut random),
+        8..=12 => counter_file(&mut random),
         13..=18 => flip(seed, round * 6 + family - 13),
         19 | 20 => structure::damaged_structure(&mut random),
         21 => session::damaged_rules(&mut random),

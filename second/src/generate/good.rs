@@ -63,6 +63,11 @@ pub fn file_with_batches(random: &mut Random) -> Draft {
     Maker::new(random).finish_with(batches, 9)
 }
 
+/// So many batches of up to so many entries.
+pub fn of_batches(random: &mut Random, batches: usize, largest: usize) -> Draft {
+    Maker::new(random).finish_with(batches, largest)
+}
+
 /// A small file for given rules: 2 to some 40 records.
 pub fn small_file(random: &mut Random, rules: &Rules, entities: &[usize]) -> Draft {
     let batches = *random.pick(&[0, 1, 1, 1, 2, 2, 3, 4]);

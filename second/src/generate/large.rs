@@ -1,16 +1,21 @@
 //! The few large files: full ones, and control totals beyond ten digits.
 
-use super::case::{refused, Answer, Case};
+use super::case::{accepted, refused, Answer, Case};
+use super::counters::scatter_and_repeat;
 use super::draft::{put, put_number, Draft};
 use super::good::{file_of, smallest_batches, Amounts, Maker, MODEST};
+use super::numbering::renumber;
 use super::random::Random;
 use crate::reading::RECORD;
 use crate::Currency;
 
 /// How many large files a run holds; they come first.
-pub const LARGE: u64 = 28;
+pub const LARGE: u64 = 36;
 
 const FULL: usize = 10_000;
+const FIRST_INDIVIDUAL: usize = 2;
+/// As many batches of one individual record as a file takes.
+const SMALLEST: usize = 3_332;
 
 pub fn large_file(random: &mut Random, number: u64) -> Case {
     match number {
@@ -25,7 +30,7 @@ pub fn large_file(random: &mut Random, number: u64) -> Case {
         10 => full(random, one_too_many),
         11 => full(random, |draft| spoil(draft, 0, 2, b'1')),
         12 => one_batch(random),
-        13 => Case::good("smallest batches", &smallest_batches(random, 3_332)),
+        13 => Case::good("smallest batches", &single_records(random)),
         14 => Case::with(
             "blanks",
             any_rules(random),
@@ -44,7 +49,22 @@ pub fn large_file(random: &mut Random, number: u64) -> Case {
         24 => totals(random, Currency::Pesos, &[2_001], Total::Kept),
         25 => totals(random, Currency::Pesos, &[1_500, 1_500], Total::Kept),
         26 => totals(random, Currency::Dollars, &[3_003, 4_004, 1], Total::Kept),
-        _ => totals(random, Currency::Dollars, &[9_996], Total::Kept),
+        27 => totals(random, Currency::Dollars, &[9_996], Total::Kept),
+        _ => large_counters(random, number),
+    }
+}
+
+/// Those whose counters fall or repeat.
+fn large_counters(random: &mut Random, number: u64) -> Case {
+    match number {
+        28 => falling(random, full_draft, |draft| accepted(draft)),
+        29 => falling(random, single_records, |draft| accepted(draft)),
+        30 => falling(random, full_draft, last_counter_back),
+        31 => falling(random, full_draft, |draft| spoil(draft, FULL - 1, 13, b' ')),
+        32 => repeating(random, full_draft, 1),
+        33 => repeating(random, single_records, 1),
+        34 => repeating(random, full_draft, 2),
+        _ => repeating(random, single_records, 4),
     }
 }
 
@@ -52,11 +72,37 @@ fn any_rules(random: &mut Random) -> crate::Rules {
     Maker::new(random).rules
 }
 
+fn full_draft(random: &mut Random) -> Draft {
+    file_of(random, FULL)
+}
+
+fn single_records(random: &mut Random) -> Draft {
+    smallest_batches(random, SMALLEST)
+}
+
 /// A good file of 10,000 records, which `change` may spoil.
 fn full(random: &mut Random, change: impl Fn(&mut Draft) -> Answer) -> Case {
-    let mut draft = file_of(random, FULL);
+    let mut draft = full_draft(random);
     let expected = change(&mut draft);
     Case::of("10,000 records", &draft, expected)
+}
+
+/// The same with counters that fall.
+fn falling(
+    random: &mut Random,
+    make: fn(&mut Random) -> Draft,
+    change: impl Fn(&mut Draft) -> Answer,
+) -> Case {
+    let mut draft = make(random);
+    renumber(random, &mut draft);
+    let expected = change(&mut draft);
+    Case::of("10,000 records with falling counters", &draft, expected)
+}
+
+fn repeating(random: &mut Random, make: fn(&mut Random) -> Draft, repeats: usize) -> Case {
+    let mut draft = make(random);
+    let expected = scatter_and_repeat(random, &mut draft, repeats);
+    Case::of("10,000 records with repeated counters", &draft, expected)
 }
 
 fn spoil(draft: &mut Draft, place: usize, position: usize, byte: u8) -> Answer {
@@ -75,9 +121,11 @@ fn last_amount_zero(draft: &mut Draft) -> Answer {
     refused(19, place)
 }
 
+/// That of the first individual record, behind both headers.
 fn last_counter_back(draft: &mut Draft) -> Answer {
     let place = last_individual(draft);
-    put(&mut draft.records[place], 88, b"0000001");
+    let first: [u8; 7] = std::array::from_fn(|index| draft.records[FIRST_INDIVIDUAL][87 + index]);
+    put(&mut draft.records[place], 88, &first);
     refused(27, place)
 }
 

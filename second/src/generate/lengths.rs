@@ -4,6 +4,7 @@ use super::case::{accepted, refused, Answer, Case};
 use super::draft::Draft;
 use super::faults::Kind;
 use super::good::{any_file, file_with_batches};
+use super::numbering::renumber_some;
 use super::random::{Random, CHARACTERS};
 use crate::reading::RECORD;
 
@@ -80,7 +81,8 @@ pub fn flip(draft: &Draft, at: usize, value: u8) -> Case {
 /// A good file with records of this kind, and their places.
 fn file_holding(random: &mut Random, kind: Kind) -> (Draft, Vec<usize>) {
     loop {
-        let draft = file_with_batches(random);
+        let mut draft = file_with_batches(random);
+        renumber_some(random, &mut draft);
         let places = draft.places(|record| kind.is(record));
         if !places.is_empty() {
             return (draft, places);

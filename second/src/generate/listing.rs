@@ -1,11 +1,13 @@
 //! Standard inputs of the program `positions`: good files, damaged ones, and no files at all.
 
 use super::case::{accepted, refused, Answer};
+use super::counters::put_counter_fault;
 use super::damage::put_fault;
 use super::draft::{get_number, put, Draft};
 use super::entities::{any_currency, entity_field, some_entities};
 use super::faults::{Kind, NO_DATES};
 use super::good::{any_date, long_file, small_file, Amounts, Maker};
+use super::numbering::renumber_some;
 use super::opening::shuffle;
 use super::random::{Random, LISTINGS};
 use super::structure::disorder;
@@ -57,7 +59,9 @@ fn case(family: &'static str, draft: &Draft, meant: Answer) -> ListingCase {
 
 fn any_small(random: &mut Random, rules: &Rules) -> Draft {
     let entities = some_entities(random);
-    small_file(random, rules, &entities)
+    let mut draft = small_file(random, rules, &entities);
+    renumber_some(random, &mut draft);
+    draft
 }
 
 fn good_small(random: &mut Random, rules: &Rules) -> ListingCase {
@@ -69,7 +73,9 @@ fn of_records(random: &mut Random, rules: &Rules, records: usize) -> Draft {
     let few = some_entities(random);
     let everybody: Vec<usize> = (1..500).collect();
     let entities = if random.once_in(4) { few } else { everybody };
-    long_file(random, rules, &entities, records)
+    let mut draft = long_file(random, rules, &entities, records);
+    renumber_some(random, &mut draft);
+    draft
 }
 
 fn good_long(random: &mut Random, rules: &Rules) -> ListingCase {
@@ -163,8 +169,9 @@ fn damaged(random: &mut Random, rules: &Rules) -> ListingCase {
     };
     loop {
         let mut draft = sound.clone();
-        let meant = match random.below(3) {
+        let meant = match random.below(4) {
             0 => disorder(random, &mut draft).1,
+            1 => put_counter_fault(random, &mut draft),
             _ => put_fault(random, &mut draft, &Kind::ALL),
         };
         // Everybody is on this roster, so that nobody can be struck from it.

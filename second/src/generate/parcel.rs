@@ -4,6 +4,7 @@ mod house;
 mod large;
 
 use super::case::{accepted, refused, Answer, Case};
+use super::counters::put_counter_fault;
 use super::damage::{put_fault, put_fault_of, two_in_one_record, two_in_two_records};
 use super::draft::{put, put_number, Draft};
 use super::entities::{field_number, other_currency, relation};
@@ -11,6 +12,7 @@ use super::faults::Kind;
 use super::files::any_generated;
 use super::handed::{any_handed, handed_with_reasons, number_batches, own_field, Handed};
 use super::lengths::{damaged_length_of, flip};
+use super::numbering::renumber;
 use super::random::Random;
 use super::session::{another_date, damaged_rules_at_desk};
 use super::structure::disorder;
@@ -32,7 +34,8 @@ pub const FAMILIES: u64 = 24;
 
 pub fn any_parcel(random: &mut Random, seed: u64, family: u64) -> Parcel {
     match family {
-        0..=3 => good("extract", any_handed(random)),
+        0..=2 => good("extract", any_handed(random)),
+        3 => of_counters(random),
         4 => any_origin(random),
         5..=8 => one_fault(random),
         9 if random.once_in(3) => misnamed_and_misdated(random),
@@ -71,6 +74,17 @@ fn any_origin(random: &mut Random) -> Parcel {
     let origin = *random.pick(&odd);
     put(&mut draft.records[0], 15, &origin);
     good("any origin", Handed { draft, entity })
+}
+
+/// Extracts keep the counters of their file: those that fall are good, and a fault of theirs is 27 as in the house.
+fn of_counters(random: &mut Random) -> Parcel {
+    let Handed { mut draft, entity } = handed_with_reasons(random);
+    renumber(random, &mut draft);
+    if random.once_in(2) {
+        return good("falling counters", Handed { draft, entity });
+    }
+    let expected = put_counter_fault(random, &mut draft);
+    parcel(Case::of("counter", &draft, expected), entity)
 }
 
 fn one_fault(random: &mut Random) -> Parcel {

@@ -9,6 +9,7 @@ use super::files::{any_generated, generate};
 use super::good::{any_file, file_with_batches};
 use super::large;
 use super::lending::{written_after, Input, Lending};
+use super::numbering::{renumber, renumber_some};
 use super::opening::some_opening;
 use super::random::{Random, STRIPS};
 use super::room::any_room;
@@ -44,7 +45,8 @@ fn source(random: &mut Random, seed: u64, number: u64) -> Case {
         return generate(seed, number);
     }
     match number % 24 {
-        0..=3 => good(random, "good", |_, _| {}),
+        0..=2 => good(random, "good", |_, _| {}),
+        3 => good(random, "as built but for its counters", fallen_counters),
         4 => good(random, "free positions filled", fill_free_positions),
         5 => good(random, "batches renumbered", renumber_batches),
         6..=9 => good(random, "as built", |_, draft| make_as_built(draft)),
@@ -66,12 +68,14 @@ fn good(
     } else {
         file_with_batches(random)
     };
+    renumber_some(random, &mut draft);
     change(random, &mut draft);
     Case::good(family, &draft)
 }
 
 fn damaged(random: &mut Random) -> Case {
-    let draft = file_with_batches(random);
+    let mut draft = file_with_batches(random);
+    renumber_some(random, &mut draft);
     let (family, file, reading) = damaged_copy(random, &draft);
     Case::with(family, draft.rules, file, reading)
 }
@@ -101,6 +105,12 @@ fn other_counter(random: &mut Random, draft: &mut Draft) {
     let more = *random.pick(&[1, 1, 9, 1_000_000]);
     let rest = &mut draft.records[individuals[before]..];
     number_individuals(rest, before as u64 + more);
+}
+
+/// Counters that fall, or begin elsewhere, or are those of building after all.
+fn fallen_counters(random: &mut Random, draft: &mut Draft) {
+    make_as_built(draft);
+    renumber(random, draft);
 }
 
 /// One free position of one control is not blank.

@@ -3,6 +3,7 @@
 use super::case::{accepted, refused, Answer, Case};
 use super::draft::{Draft, Record};
 use super::good::{any_file, file_with_batches};
+use super::numbering::renumber_some;
 use super::random::Random;
 use crate::reading::RECORD;
 
@@ -12,6 +13,7 @@ pub fn damaged_structure(random: &mut Random) -> Case {
     } else {
         file_with_batches(random)
     };
+    renumber_some(random, &mut draft);
     let (family, expected) = disorder(random, &mut draft);
     Case::of(family, &draft, expected)
 }

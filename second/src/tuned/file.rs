@@ -3,36 +3,50 @@
 use super::batch::check_batch_header;
 use super::controls::{check_batch_control, check_file_control, Sums};
 use super::header::check_file_header;
-use super::individual::{individual, Individual, NO_SEQUENCE};
+use super::individual::{individual, sequence_of, Individual, NO_SEQUENCE};
 use super::records::Records;
 use super::refusals;
-use super::words::word;
-use crate::reading::RECORD;
-use crate::refusal::{require, Refusal, ADDITIONAL, FORMAT};
+use super::spans::first_repeat;
+use super::words::{word, Record};
+use crate::refusal::{require, Refusal, ADDITIONAL, COUNTER, FORMAT};
 use crate::rules::Rules;
 
 pub fn read(rules: &Rules, file: &[u8]) -> Result<(), Refusal> {
-    let records = file.len() / RECORD;
+    let records: &[Record] = file.as_chunks().0;
     let mut reading = Reading {
         rules,
-        records: Records(file.as_chunks().0),
-        sequence: NO_SEQUENCE,
+        records: Records(records),
+        last: NO_SEQUENCE,
+        falls: false,
         batches: 0,
         sums: Sums::default(),
     };
-    let answer = reading.take_file(records);
-    answer.map_err(|number| Refusal {
-        number,
-        place: records - reading.records.left(),
-    })
+    let answer = reading.take_file(records.len());
+    let place = records.len() - reading.records.left();
+    if reading.falls {
+        refuse_repeat(&records[..place])?;
+    }
+    answer.map_err(|number| Refusal { number, place })
+}
+
+/// All of these records are good by themselves, so that a repeat among them comes before any other fault.
+#[cold]
+fn refuse_repeat(records: &[Record]) -> Result<(), Refusal> {
+    let refusal = |place| Refusal {
+        number: COUNTER,
+        place,
+    };
+    first_repeat(records).map_or(Ok(()), |place| Err(refusal(place)))
 }
 
 /// What of the records read so far is needed for those to come.
 struct Reading<'a> {
     rules: &'a Rules,
     records: Records<'a>,
-    /// Of the last individual record; it runs on through the file's batches.
-    sequence: u64,
+    /// The last sequence of the batch before.
+    last: u64,
+    /// Whether a batch has not begun above that: as long as none has, no counter can occur twice.
+    falls: bool,
     batches: u64,
     sums: Sums,
 }
@@ -59,7 +73,9 @@ impl Reading<'_> {
         require(header[0] == b'5', FORMAT)?;
         check_batch_header(self.rules, header)?;
         self.records.advance();
-        require(self.records.record()?[0] == b'6', FORMAT)?;
+        let first = self.records.record()?;
+        require(first[0] == b'6', FORMAT)?;
+        self.falls |= sequence_of(first) <= self.last;
         let entries = self.records.left();
         let mut sums = self.take_entries(word(header, 80))?;
         sums.entries = (entries - self.records.left()) as u64;
@@ -80,15 +96,17 @@ impl Reading<'_> {
     #[inline(always)]
     fn take_entries(&mut self, sender: u64) -> Result<Sums, u16> {
         let mut sums = Sums::default();
+        let mut last = NO_SEQUENCE;
         loop {
             let record = self.records.record()?;
             if record[0] != b'6' {
+                self.last = last;
                 return Ok(sums);
             }
-            let Some(individual) = individual(self.rules, sender, self.sequence, record) else {
+            let Some(individual) = individual(self.rules, sender, last, record) else {
                 return Err(refusals::of_individual(self.rules, sender, record));
             };
-            self.sequence = individual.sequence;
+            last = individual.sequence;
             self.records.advance();
             sums.add_individual(&individual);
             if individual.has_additional {

@@ -31,7 +31,7 @@ const MOTIVE: Picture<32> = Picture::of(b"R99999999999999999      99999999");
 /// Positions 84-87 of a concept.
 const CONCEPT: Picture<4> = Picture::of(b"9999");
 
-/// `last` is the sequence of the individual record before, or none.
+/// `last` is the sequence of the individual record before in the same batch, or none.
 #[inline(always)]
 pub fn individual(rules: &Rules, sender: u64, last: u64, record: &Record) -> Option<Individual> {
     // Pictures come first: the compiler takes bytes many at a time only as long as it holds no words of them.
@@ -43,7 +43,7 @@ pub fn individual(rules: &Rules, sender: u64, last: u64, record: &Record) -> Opt
     let destination = fours(values(record, 4, 11));
     let eight = values(record, 32, 39);
     let amount = first_two(record) * 100_000_000 + joined(fours(eight));
-    let sequence = sequence(word(record, 87));
+    let sequence = sequence_of(record);
     let good = admit(rules, destination & 0xffff).is_ok()
         && strays(eight) == 0
         && amount > 0
@@ -80,7 +80,13 @@ const fn sequence(counter: u64) -> u64 {
     counter.swap_bytes() << 8
 }
 
-/// What comes before the first.
+/// Of an individual record, to be compared only.
+#[inline(always)]
+pub fn sequence_of(record: &Record) -> u64 {
+    sequence(word(record, 87))
+}
+
+/// What comes before the first of a batch.
 pub const NO_SEQUENCE: u64 = sequence(u64::from_le_bytes(*b"00000000"));
 
 /// By the last digit of the code, what `is_informed` must stay below; nothing does where there is no such code.

@@ -78,3 +78,9 @@ pub fn has_text(record: &Record, from: usize, to: usize) -> bool {
     let between = (from + 8).min(to - 7);
     word(record, from) | word(record, between) | word(record, to - 7) != EIGHT_BLANKS
 }
+
+/// Positions 88-94 where they are known to be digits.
+#[inline(always)]
+pub fn counter(record: &Record) -> u64 {
+    joined(fours(values(record, 88, 94)))
+}

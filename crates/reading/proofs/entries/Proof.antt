@@ -57,8 +57,7 @@ returns c =
     record {
       further = p .further;
       within = p .underway .within;
-      room = p .underway .room;
-      preceded = p .underway .preceded;
+      standing = p .underway .standing;
       framed = λ h. rw (kind-so told) none;
       left = p .left;
     }
@@ -77,7 +76,7 @@ entry-requires c κs =
     let told : tie.After-kind Inv-loop μ-loop = search in
     let head : tie.At-loop Inv-loop μ-loop = search in
     let u = head .loop .inv .underway in (
-      record { short = u .short; inside = omega (arith, u .all); room = u .room; preceded = u .preceded },
+      record { short = u .short; inside = omega (arith, u .all); standing = u .standing },
       (
         λ h. front-record _ _ _ (u .clean) (sym (c .in-front .ensures) ∙ h),
         (kind-so told, sym (asked .is-entry .ensures) ∙ not-false (asked .is-entry .result) (other .if1 .left)),
@@ -106,7 +105,7 @@ loop-again c =
     let h = rw (right .next .given .1) at (taken .entry .ensures .says) in
     let k = rw (right .next .given .1) at (taken .entry .ensures .kept) in
     record {
-      underway = record { all = u .all; within = omega arith; short = u .short; room = k .0; preceded = k .1; clean = u .clean };
+      underway = record { all = u .all; within = omega arith; short = u .short; standing = k; clean = u .clean };
       further = omega (arith, p .further);
       left = p .left ∙ go-on _ _ _ _ _ (turn .loop-test .taken) (sym h);
     }
@@ -119,8 +118,7 @@ returns-3 c =
     record {
       further = p .further;
       within = p .underway .within;
-      room = p .underway .room;
-      preceded = p .underway .preceded;
+      standing = p .underway .standing;
       framed = λ h. absurd (omega (arith, c .loop-test .left));
       left = p .left;
     }

@@ -17,7 +17,7 @@ frame-requires : tie.Need-frame-requires
 frame-requires c κs =
     let start : tie.Start = search in
     let u = start .pre .0 in (
-      record { short = u .short; inside = omega (arith, u .all, start .pre .1 .0); room = u .room; preceded = u .preceded },
+      record { short = u .short; inside = omega (arith, u .all, start .pre .1 .0); standing = u .standing },
       (λ h. front-record _ _ _ (u .clean) (sym (c .in-front .ensures) ∙ h), start .pre .1 .1),
     )
 
@@ -29,7 +29,7 @@ entries-requires c κs =
     let start : tie.Start = search in
     let u = start .pre .0 in
     let k = rw (right .next .given .1) at (framed .frame .ensures .kept) in
-    record { all = u .all; within = omega (arith, start .pre .1 .0); short = u .short; room = k .0; preceded = k .1; clean = u .clean }
+    record { all = u .all; within = omega (arith, start .pre .1 .0); short = u .short; standing = k; clean = u .clean }
 
 returns : tie.Need-returns
 unfolding stepSays

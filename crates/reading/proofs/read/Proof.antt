@@ -9,6 +9,7 @@ use lib.ListN.{length, drop}
 use Rattle.paper.specs.declared.record.Before.the-variants.{Nothing}
 use Rattle.paper.specs.Records.{ReadingRules}
 use Rattle.paper.specs.Reading.{start, lengthGood, finish, readingFrom, parts}
+use Rattle.state.proofs.Numbering.{none-known}
 use Rattle.state.specs.declared.State.{State}
 use Rattle.state.specs.States.{meant, Preceded}
 use Rattle.verdicts.specs.Verdicts.{under}
@@ -57,8 +58,7 @@ loop-holds c =
         all = refl;
         within = omega arith;
         short = l;
-        room = record { batches = omega arith; batch = below-zeros _; closed = below-zeros _ };
-        preceded = tt;
+        standing = record { room = record { batches = omega arith; batch = below-zeros _; closed = below-zeros _ }; preceded = tt; known = none-known _ _ refl };
         clean = c .clean-front .ensures;
       };
       framed = λ h i. refl;
@@ -117,7 +117,7 @@ loop-again c =
     let r = reached at in
     record {
       fit = p .fit;
-      underway = record { all = refl; within = r .within; short = p .underway .short; room = r .room; preceded = r .preceded; clean = p .underway .clean };
+      underway = record { all = refl; within = r .within; short = p .underway .short; standing = r .standing; clean = p .underway .clean };
       framed = λ h i. absurd (true-not-false (sym i ∙ r .framed h));
       left = p .left ∙ r .left;
     }

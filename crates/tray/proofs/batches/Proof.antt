@@ -4,8 +4,7 @@ use mathlib.Core.Logic.{⊎-elim}
 use mathlib.Core.Path.{_≡_, ap, _∙_}
 use borrow.Author.Needs.{needs}
 use native.Mathlib.Omega.{arith}
-use Rattle.paper.specs.Kinds.{kindOf}
-use Rattle.batches.specs.Blocks.{opensBatch}
+use Rattle.paper.specs.Kinds.{opensBatch, kindOf}
 use Rattle.tray.proofs.Passing.{Counted, none-counted, one-counted, all-counted}
 use Rattle.tray.proofs.batches.Statement.{statement}
 use Rattle.tray.proofs.batches.Tie as tie

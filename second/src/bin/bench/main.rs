@@ -5,6 +5,7 @@ use std::process::ExitCode;
 mod addressed;
 mod building;
 mod contents;
+mod counters;
 mod country;
 mod days;
 mod extracting;
@@ -40,6 +41,7 @@ fn run_all() {
     receiving::run();
     worst::run();
     contents::run();
+    counters::run();
     queue::run();
     country::run();
 }

@@ -1,5 +1,6 @@
 //! The jobs that both programs do, one after the other.
 
+mod counters;
 mod counting;
 mod days;
 mod extracts;

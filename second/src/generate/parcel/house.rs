@@ -9,6 +9,7 @@ use crate::generate::entities::field_number;
 use crate::generate::good::any_file;
 use crate::generate::handed::{handed, put_own_header, readdress};
 use crate::generate::meant::records_of;
+use crate::generate::numbering::renumber_some;
 use crate::generate::random::Random;
 use crate::generate::sums::amount_sums;
 use crate::Refusal;
@@ -79,7 +80,8 @@ pub fn readdressed(random: &mut Random) -> Parcel {
             (case.family, case.rules, case.file, case.expected)
         }
         _ => {
-            let draft = any_file(random);
+            let mut draft = any_file(random);
+            renumber_some(random, &mut draft);
             let (file, expected) = (draft.bytes(), accepted(&draft));
             ("house file readdressed", draft.rules, file, expected)
         }

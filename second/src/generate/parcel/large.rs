@@ -6,6 +6,7 @@ use crate::generate::case::{refused, Answer, Case};
 use crate::generate::draft::{put, put_number, Draft};
 use crate::generate::entities::{field_number, relation};
 use crate::generate::handed::{handed, Handed};
+use crate::generate::numbering::renumber_some;
 use crate::generate::random::Random;
 use crate::reading::RECORD;
 
@@ -32,9 +33,11 @@ pub fn large_parcel(random: &mut Random, number: u64) -> Parcel {
     }
 }
 
-/// The extract of a file of 10,000 records.
+/// The extract of a file of 10,000 records, whose counters may fall.
 fn full(random: &mut Random, each: usize, share: Share) -> Handed {
-    handed(shared_file(random, FULL, each, share))
+    let mut addressed = shared_file(random, FULL, each, share);
+    renumber_some(random, &mut addressed.draft);
+    handed(addressed)
 }
 
 fn damaged(

@@ -1,17 +1,21 @@
+use Prim.Native.Nat.{_<_}
 use mathlib.Core.Bool.{true}
 use mathlib.Core.Path.{_≡_, refl, sym, ap, _∙_}
 use native.Mathlib.Omega.{arith}
 use borrow.Author.Needs.{needs}
-use Rattle.paper.specs.Fields.{field, number}
+use Rattle.paper.specs.Checks.{fine, _also_}
 use Rattle.paper.specs.Kinds.{known}
-use Rattle.paper.specs.Reading.{fields, beforeNext, lastIndividual, counted}
-use Rattle.controls.proofs.Bounds.{below-individual}
+use Rattle.paper.specs.Records.{numberIn, individual}
+use Rattle.paper.specs.Reading.{fields, recordAt}
+use Rattle.verdicts.specs.Verdicts.{under}
 use Rattle.entries.specs.declared.individual.Entry.{Entry}
 use Rattle.entries.specs.Judging.{judgedSays, HandsOn, entryOf}
+use Rattle.paper.proofs.Counters.{individual-after}
 use Rattle.entries.proofs.Chains.{code-known}
-use Rattle.state.specs.States.{meant, Kept, Held}
-use Rattle.state.proofs.Steps.{goes-on, stops-at, standing-flagged, room-next, closed-stays}
-use Rattle.state.proofs.Entering.{entry-small, entered}
+use Rattle.state.specs.States.{meant, NumberSays}
+use Rattle.state.proofs.Numbering.{below-own}
+use Rattle.state.proofs.Steps.{goes-on, stops-at, is-new, is-old}
+use Rattle.state.proofs.Entering.{entry-small}
 use Rattle.state.proofs.individual.step.Statement.{statement}
 use Rattle.state.proofs.individual.step.Tie as tie
 
@@ -20,46 +24,77 @@ handed : (c : tie.After-entry) → let rec : tie.After-record-at = search in c .
 unfolding HandsOn
 handed c = let verdict : tie.After-judge = search in rw (c .entry .given .1) at (verdict .judge .ensures .1)
 
-numbered : (c : tie.After-entry) → let rec : tie.After-record-at = search in c .entry .given .0 .0 .counter ≡ number (field (rec .record-at .result .now) 88 94)
-unfolding entryOf
-numbered c = ap (λ (e : Entry). e .counter) (handed c)
-
 known-code : (c : tie.After-entry) → known (c .entry .given .0 .0 .code) ≡ true
 unfolding judgedSays entryOf
 known-code c =
     let verdict : tie.After-judge = search in
     ap known (ap (λ (e : Entry). e .code) (handed c)) ∙ code-known _ _ _ _ (sym (verdict .judge .ensures .0) ∙ ap judgedSays (c .entry .given .1))
 
-with-entry-requires : tie.Need-with-entry-requires
-with-entry-requires c κs =
-    let good : tie.After-entry = search in
-    let rec : tie.After-record-at = search in
-    let start : tie.Start = search in
-    (entry-small _ _ (handed good) (rec .record-at .ensures .1), search (needs, start .pre .room .batch))
-
-returns : tie.Need-returns
-unfolding judgedSays meant Kept Held fields beforeNext lastIndividual counted
-returns c =
-    let at-flag : tie.After-flag = search in
-    let at-flagged : tie.After-flagged = search in
-    let good : tie.After-entry = search in
+-- all but the number's newness
+good-so : (c : tie.After-entry) → let start : tie.Start = search in let a = start .args in
+    individual (under (a .terms) (a .roster .now)) (recordAt (a .file .now) (a .state .header)) (a .state .counter) (recordAt (a .file .now) (a .place)) ≡ fine
+unfolding judgedSays
+good-so c =
     let verdict : tie.After-judge = search in
     let header : tie.After-record-at2 = search in
     let rec : tie.After-record-at = search in
-    let start : tie.Start = search in
-    let side : tie.After-collects = search in
-    let counts = rw (side .collects .ensures) at (c .with-entry .ensures) ∙ entered _ _ (handed good) (known-code good) (start .args .state .batch) in
-    goes-on _ (start .pre)
-    (simp (sym (rec .record-at .ensures .0), sym (header .record-at2 .ensures .0), sym (verdict .judge .ensures .0), good .entry .given .1))
-    (simp (counts, numbered good, at-flag .flag .ensures, at-flagged .flagged .ensures, rec .record-at .ensures .0)) (
-      room-next _ _ (omega (arith, start .pre .room .batches)) (rw counts (below-individual _ _ (rec .record-at .ensures .1) (start .pre .room .batch))) (closed-stays _ _ (start .pre .room)),
-      rw (at-flag .flag .ensures) (standing-flagged _ _ _ (omega (arith, start .pre .stands)) (omega arith)),
-    )
-    (refl, refl)
+    simp (sym (rec .record-at .ensures .0), sym (header .record-at2 .ensures .0), sym (verdict .judge .ensures .0), c .entry .given .1)
 
+-- its number
+number-so : (c : tie.After-entry) → let start : tie.Start = search in c .entry .given .0 .0 .counter ≡ numberIn (recordAt (start .args .file .now) (start .args .place))
+unfolding entryOf
+number-so c = let rec : tie.After-record-at = search in ap (λ (e : Entry). e .counter) (handed c) ∙ ap numberIn (rec .record-at .ensures .0)
+
+-- above the last of its batch
+rises-so : (c : tie.After-entry) → let start : tie.Start = search in start .args .state .counter < numberIn (recordAt (start .args .file .now) (start .args .place))
+rises-so c = let start : tie.Start = search in individual-after _ _ (start .args .state .counter) 0 _ (omega arith) (good-so c) .1
+
+judge-requires-2 : tie.Need-judge-requires-2
+judge-requires-2 c κs =
+    let good : tie.After-entry = search in
+    let start : tie.Start = search in
+    let p = start .pre in (
+      (p .short, p .inside, omega (arith, p .stands)),
+      ((rw (p .told) refl, number-so good), (λ n h. below-own (number-so good) (rises-so good) (p .known .below n h), p .known .fresh)),
+    )
+
+after-requires : tie.Need-after-requires
+after-requires c κs =
+    let good : tie.After-entry = search in
+    let rec : tie.After-record-at = search in
+    let start : tie.Start = search in
+    (search (needs, start .pre .room), entry-small _ _ (handed good) (rec .record-at .ensures .1))
+
+-- a number that is new
+returns : tie.Need-returns
+unfolding NumberSays
+returns c =
+    let at-flagged : tie.After-flagged = search in
+    let new : tie.After-fresh = search in
+    let number : tie.After-judge2 = search in
+    let good : tie.After-entry = search in
+    let rec : tie.After-record-at = search in
+    let start : tie.Start = search in
+    let said = rw (new .fresh .given .1) at (number .judge2 .ensures) in
+    goes-on _ (start .pre) (is-new (start .pre) _ (good-so good) (said .0))
+    (c .after .ensures _ (start .pre) (record {
+      numbers = λ _. rw (sym (rec .record-at .ensures .0)) (handed good, known-code good);
+      rises = λ _. rises-so good;
+      flag = λ _. rw (sym (rec .record-at .ensures .0)) (at-flagged .flagged .ensures);
+    }) (rw (number-so good) at (said .1)))
+
+-- one that stood before
 returns-2 : tie.Need-returns-2
-unfolding judgedSays meant fields
+unfolding NumberSays
 returns-2 c =
+    let number : tie.After-judge2 = search in
+    let good : tie.After-entry = search in
+    let start : tie.Start = search in
+    stops-at _ (start .pre) (is-old (start .pre) _ (good-so good) (rw (c .enum-told .given .1) at (number .judge2 .ensures)))
+
+returns-3 : tie.Need-returns-3
+unfolding judgedSays meant fields _also_
+returns-3 c =
     let wrong : tie.After-fault = search in
     let verdict : tie.After-judge = search in
     let header : tie.After-record-at2 = search in
@@ -71,6 +106,5 @@ pub step-spec : {M : Type 1} → statement M
 step-spec =
     tie.close
     (tie.spec
-    (λ c κs. search needs) (λ c κs. search needs) (λ c κs. search needs) (λ c. search needs)
-    (λ c κs. search needs) (λ c κs. search needs) (λ c κs. search needs) with-entry-requires (λ c. search needs)
-    returns returns-2)
+    (λ c κs. search needs) (λ c κs. search needs) (λ c κs. search needs) (λ c. search needs) judge-requires-2 (λ c. search needs) (λ c κs. search needs) after-requires
+    (λ c. search needs) (λ c. search needs) returns returns-2 returns-3)

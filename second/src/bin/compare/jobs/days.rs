@@ -1,5 +1,6 @@
 //! Both programs on generated days: opening, every answer, every cell, the listing.
 
+use super::counters::{fall, Refused};
 use super::job::{Job, Seen};
 use super::showing::{both_texts, show_and_keep};
 use second::day::{Day, Outcome};
@@ -154,6 +155,23 @@ impl Seen<DayCase> {
         } else {
             0
         }
+    }
+
+    /// Files accepted though their counters fall.
+    pub fn accepted_falling(&self) -> u64 {
+        self.accepted().filter(|file| fall(file)).count() as u64
+    }
+
+    /// Files refused for the counter of another batch.
+    pub fn refused_for_repeats(&self) -> u64 {
+        let answers = self.answer.answers.iter();
+        let answered = self.case.day.files().zip(answers);
+        let repeats = answered.filter(|(file, answer)| {
+            let refusal = answer.err().filter(|refusal| refusal.number == 27);
+            let refused = refusal.and_then(|refusal| Refused::at(file, refusal.place));
+            refused.is_some_and(|refused| refused.repeats())
+        });
+        repeats.count() as u64
     }
 
     /// Files accepted after one with their key was refused by the reading.

@@ -1,5 +1,6 @@
 //! Both programs on generated extractions.
 
+use super::counters::fall;
 use super::fields::{total, AMOUNT, DESTINATION};
 use super::job::Seen;
 use super::sharing::{is_received, reads_with_its_origin, shared_out};
@@ -128,6 +129,11 @@ impl Seen<ExtractCase> {
     pub fn handed(&self) -> Vec<&[u8]> {
         let batches = self.held().into_iter();
         batches.flat_map(|batch| batch.records).collect()
+    }
+
+    /// Whether what is handed over falls.
+    pub fn hands_over_falling(&self) -> bool {
+        fall(&self.handed().concat())
     }
 
     pub fn largest_batch_total(&self) -> u64 {

@@ -1,5 +1,6 @@
 //! The one table of what a run must reach, and how often at the least: a run that hardly reaches some of this shows little.
 
+use super::counters::{begin_again, fall, fall_far_apart, Refused};
 use super::counting::Rows::{self, *};
 use super::fields::{several, total, AMOUNT, BRANCH, DESTINATION, SENDER};
 use super::form::{bad_tail, bad_type, is_odd, keeps_letter, mixes_kinds, mixes_letters, stray_at, stray_byte};
@@ -23,11 +24,31 @@ const ELEVEN_DIGITS: u64 = 99_999_999_999;
 pub const FILES: &[Rows<Case>] = &[
     Named(&[("files", 200_000)]),
     OneIn("accepted", 10),
+    OneIn("of the counters' family", 6),
     Named(&[
         ("refused 201", 1_000), ("refused 17", 1_000), ("refused 19", 1_000),
         ("refused 25", 1_000), ("refused 27", 1_000), ("refused 75", 1_000), ("refused 77", 1_000),
         ("refused 78", 1_000), ("refused 79", 1_000), ("refused 87", 1_000),
         ("refused 203", 1_000), ("refused 204", 1_000), ("openings refused by 75", 1_000),
+    ]),
+    Cases(|seen| seen.answer.is_ok(), &[
+        ("accepted with falling counters", 8_000, |seen| fall(&seen.case.file)),
+        ("accepted with falling counters far apart", 1_200, |seen| fall_far_apart(&seen.case.file)),
+        ("accepted with 1 behind 9999999", 1_200, |seen| begin_again(&seen.case.file)),
+        ("accepted with falling counters in 100 records and more", 50, |seen| seen.records() >= 100 && fall(&seen.case.file)),
+        ("accepted with falling counters in 1000 records and more", 2, |seen| seen.records() >= 1_000 && fall(&seen.case.file)),
+    ]),
+    Cases(|_| true, &[
+        ("27 for the counter of another batch", 7_000, |seen| seen.refused_counter(Refused::repeats)),
+        ("27 for the counter of another sender", 4_000, |seen| seen.refused_counter(Refused::repeats_another_sender)),
+        ("27 for the counter of the first record", 5_500, |seen| seen.refused_counter(Refused::repeats_the_first)),
+        ("27 for the counter of the record before", 5_000, |seen| seen.refused_counter(Refused::repeats_the_one_before)),
+        ("27 for a repeat amid its batch", 400, |seen| seen.refused_counter(Refused::repeats_within)),
+        ("27 for a repeat in the last record", 4_500, |seen| seen.refused_counter(Refused::repeats_in_the_last)),
+        ("27 for a first counter of 0", 3_500, |seen| seen.refused_counter(Refused::is_first_zero)),
+        ("27 for a first counter of 0 in a later batch", 1_500, |seen| seen.refused_counter(Refused::is_later_zero)),
+        ("27 for falling within a batch", 1_200, |seen| seen.refused_counter(Refused::falls)),
+        ("27 for 1 behind 9999999 in a batch", 400, |seen| seen.refused_counter(Refused::begins_again)),
     ]),
     Largest("bytes of the largest file", |seen| seen.case.file.len() as u64),
 ];
@@ -58,6 +79,8 @@ pub const DAYS: &[Rows<DayCase>] = &[
         ("records of 31 posted", 2_000, |day| day.posted_of(Code::ReversalRejection)),
         ("records sent to oneself", 3_000, Seen::sent_to_oneself),
         ("negative positions", 3_000, Seen::negative),
+        ("files accepted with falling counters", 1_500, Seen::accepted_falling),
+        ("files refused for the counter of another batch", 120, Seen::refused_for_repeats),
     ]),
 ];
 
@@ -74,6 +97,7 @@ pub const LISTINGS: &[Rows<ListingCase>] = &[
         ("listings of 499 lines", 50, |seen| seen.lines() == 499),
         ("listings of no line", 20, |seen| seen.lines() == 0),
         ("listings with negative positions", 300, |seen| seen.answer.contains(&b'-')),
+        ("listings of falling counters", 100, |seen| fall(&seen.case.input)),
     ]),
 ];
 
@@ -110,6 +134,8 @@ pub const EXTRACTS: &[Rows<ExtractCase>] = &[
         ("the entity is the origin", 500, |seen| seen.header()[14..18] == seen.digits()),
         ("names that differ", 1_000, |seen| seen.header()[40..63] != seen.header()[63..86]),
         ("for entity 1 or 499", 500, |seen| matches!(seen.entity(), 1 | 499)),
+        ("from falling counters", 1_000, |seen| fall(&seen.case.input.file)),
+        ("falling counters handed over", 400, Seen::hands_over_falling),
         // Few, since the files are large.
         ("totals beyond ten digits", 30, |seen| total(&seen.handed(), DESTINATION) > TEN_DIGITS),
         ("batch totals beyond ten digits", 10, |seen| seen.largest_batch_total() > TEN_DIGITS),
@@ -238,7 +264,7 @@ pub const TRAYS: &[Rows<TrayCase>] = &[
         ("AD not due", 70), ("one kind only", 80), ("records swapped", 80), ("mark", 400),
         ("kind", 400), ("tail", 400), ("tray length", 400), ("header length", 400),
         ("207 twice", 400), ("207 and a fault in a field", 400), ("random bytes", 200),
-        ("another date", 70), ("rules of no date", 60), ("other currency", 60),
+        ("another date", 70), ("rules of no date", 60), ("other currency", 60), ("falling counters", 25), ("counter", 20),
         ("empty roster", 60), ("entity struck", 60),
     ]),
 ];
@@ -263,6 +289,8 @@ pub const STRIPS: &[Rows<StripCase>] = &[
         ("not quite as built but for one batch number", 500, |seen| seen.is_not_quite("as built but for one batch number")),
         ("not quite as built but for one counter", 500, |seen| seen.is_not_quite("as built but for one counter")),
         ("not quite as built but for a free position", 600, |seen| seen.is_not_quite("as built but for a free position")),
+        ("not quite as built but for its counters", 250, |seen| seen.is_not_quite("as built but for its counters")),
+        ("falling counters stripped", 500, |seen| fall(&seen.case.input.file)),
     ]),
     Records(Seen::accepted_records, &[
         ("code 37", 30_000, |record| record.starts_with(b"637")),
@@ -276,7 +304,8 @@ pub const STRIPS: &[Rows<StripCase>] = &[
     // What the generator has made.
     Named(&[
         ("good", 2_000), ("free positions filled", 400), ("batches renumbered", 400),
-        ("as built", 1_000), ("one fault", 600), ("two faults in one record", 200),
+        ("as built", 1_000), ("as built but for its counters", 500), ("falling counters", 200), ("counter", 350),
+        ("one fault", 600), ("two faults in one record", 200),
         ("two faults in two records", 200), ("byte flipped", 600), ("fault", 700),
         ("flipped", 100), ("cut", 100), ("length", 70), ("cut after a record", 30),
         ("record dropped", 30), ("record doubled", 30), ("records swapped", 30),
@@ -369,7 +398,9 @@ pub const RECEIVED: &[Rows<ReceiveCase>] = &[
         ("for entity 1 or 499", 1_700, |seen| matches!(seen.entity(), 1 | 499)),
         ("totals beyond ten digits", 15, |seen| total(&seen.individuals(), DESTINATION) > TEN_DIGITS),
         ("sums of twelve digits", 230, |seen| total(&seen.individuals(), AMOUNT) > ELEVEN_DIGITS),
+        ("accepted with falling counters", 500, |seen| fall(&seen.case.file)),
     ]),
+    Cases(|seen| seen.refused(27), &[("27 for the counter of another batch", 100, |seen| seen.repeats())]),
     Records(|seen| seen.individuals(), &[
         ("code 37", 45_000, |record| record.starts_with(b"637")),
         ("code 36", 12_000, |record| record.starts_with(b"636")),
@@ -378,6 +409,7 @@ pub const RECEIVED: &[Rows<ReceiveCase>] = &[
     ]),
     // What the generator has made.
     Named(&[
+        ("falling counters", 330), ("counter", 330),
         ("extract", 3_300), ("any origin", 840), ("one fault", 3_300), ("fault in the header", 500), ("header and date", 240),
         ("fault in a batch header", 840), ("fault in a record", 840), ("two faults in one record", 850),
         ("two faults in two records", 850), ("batch numbers", 850), ("foreign destinations", 850), ("byte flipped", 1_600),
@@ -417,7 +449,11 @@ pub const SHOWN: &[Rows<ShowCase>] = &[
         ("lines for R99", 450, |seen| seen.line() == Some(99)),
         ("lines of blanks", 290, |seen| seen.answer.as_ref().is_ok_and(|(_, text)| *text == [b' '; 44])),
     ]),
-    Cases(|seen| seen.answer.is_ok(), &[("reasons beyond record 5000", 3, |seen| seen.case.record > 5_000)]),
+    Cases(|seen| seen.answer.is_ok(), &[
+        ("reasons beyond record 5000", 3, |seen| seen.case.record > 5_000),
+        ("shown from falling counters", 1_000, |seen| fall(&seen.case.file)),
+    ]),
+    Cases(|seen| seen.refused(27), &[("27 for the counter of another batch", 25, |seen| seen.repeats())]),
     Different(&[("lines for different R numbers", 50, Seen::line)]),
     // Every kind of record that is no rejection's additional, and places behind the file.
     Cases(|seen| seen.refused(214), &[

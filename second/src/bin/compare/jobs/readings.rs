@@ -1,8 +1,10 @@
 //! Both readings on generated files, and the tuned ones beside them.
 
+use super::counters::Refused;
 use super::job::{Job, Seen};
 use super::showing::show_and_keep;
 use second::day::Opening;
+use second::generate::counters::FAMILIES;
 use second::generate::{generate, Case};
 use second::{proved, read, read_swept, tuned, Refusal};
 
@@ -36,7 +38,12 @@ impl Job for Case {
     }
 
     fn shows(seen: &Seen<Case>, name: &str) -> u64 {
-        u64::from(name == "files" || is_named(seen.answer, name))
+        let named = match name {
+            "files" => true,
+            "of the counters' family" => FAMILIES.contains(&seen.case.family),
+            _ => is_named(seen.answer, name),
+        };
+        u64::from(named)
     }
 
     fn show(&self, ours: &Self::Answer, theirs: &Result<Self::Answer, String>, name: &str) {
@@ -48,6 +55,19 @@ impl Job for Case {
         println!("tuned:  {:?}", tuned::read(&self.rules, &self.file));
         println!("meant:  {:?} ({})", self.expected, self.family);
         show_and_keep(&self.file, 94, name);
+    }
+}
+
+impl Seen<Case> {
+    /// The individual record that is refused by 27, where this holds of it.
+    pub fn refused_counter<'s>(&'s self, test: fn(&Refused<'s>) -> bool) -> bool {
+        let refusal = self.answer.err().filter(|refusal| refusal.number == 27);
+        let refused = refusal.and_then(|refusal| Refused::at(&self.case.file, refusal.place));
+        refused.as_ref().is_some_and(test)
+    }
+
+    pub fn records(&self) -> usize {
+        self.case.file.len() / 94
     }
 }
 

@@ -1,5 +1,6 @@
 //! Both programs on generated receivings.
 
+use super::counters::Refused;
 use super::job::{Job, Seen};
 use super::readings::is_named;
 use super::showing::show_and_keep;
@@ -121,6 +122,13 @@ impl Seen<ReceiveCase> {
 
     pub fn header(&self) -> &[u8] {
         self.case.file.get(..94).unwrap_or(&[])
+    }
+
+    /// Whether it is refused for the counter of another batch.
+    pub fn repeats(&self) -> bool {
+        let place = self.place().filter(|_| self.refused(27));
+        let refused = place.and_then(|place| Refused::at(&self.case.file, place));
+        refused.is_some_and(|refused| refused.repeats())
     }
 
     /// The individual records of an accepted file.

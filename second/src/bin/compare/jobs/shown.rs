@@ -1,5 +1,6 @@
 //! Both programs on reasons: the one asked for, and all of the file at once.
 
+use super::counters::Refused;
 use super::job::{Job, Seen};
 use super::readings::is_named;
 use super::received::was_opened;
@@ -103,6 +104,14 @@ impl Seen<ShowCase> {
     pub fn stands_in(&self, source: Source) -> bool {
         let shown = self.answer.as_ref();
         shown.is_ok_and(|(standing, _)| standing.source == source)
+    }
+
+    /// Whether the file is refused for the counter of another batch.
+    pub fn repeats(&self) -> bool {
+        let refusal = self.answer.as_ref().err();
+        let refusal = refusal.filter(|_| self.refused(27));
+        let refused = refusal.and_then(|refusal| Refused::at(&self.case.file, refusal.place));
+        refused.is_some_and(|refused| refused.repeats())
     }
 
     pub fn records(&self) -> u64 {
