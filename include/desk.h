@@ -51,18 +51,19 @@ extern "C" {
 #define SHAYDHOQEL_OPENING UINT64_MAX
 
 /* Bytes of stack that suffice for a thread that makes this call; at least 16 KB of them are left to the thread and its caller.
-   SHAYDHOQEL_STACK suffices for every call. A call that reads takes most of it only where the counters of a file fall. */
-#define SHAYDHOQEL_STACK 786432
-#define SHAYDHOQEL_STACK_READ 589824
-#define SHAYDHOQEL_STACK_DAY 786432
-#define SHAYDHOQEL_STACK_DAY_LISTING 786432
-#define SHAYDHOQEL_STACK_LISTING 786432
-#define SHAYDHOQEL_STACK_EXTRACT 655360
+   SHAYDHOQEL_STACK suffices for every call. A call that reads takes most of it only where the counters of a file fall, which those of a
+   file that is built never do. */
+#define SHAYDHOQEL_STACK 655360
+#define SHAYDHOQEL_STACK_READ 393216
+#define SHAYDHOQEL_STACK_DAY 655360
+#define SHAYDHOQEL_STACK_DAY_LISTING 655360
+#define SHAYDHOQEL_STACK_LISTING 458752
+#define SHAYDHOQEL_STACK_EXTRACT 524288
 #define SHAYDHOQEL_STACK_BUILD 131072
-#define SHAYDHOQEL_STACK_STRIP 655360
-#define SHAYDHOQEL_STACK_RECEIVE 655360
-#define SHAYDHOQEL_STACK_SHOW 655360
-#define SHAYDHOQEL_STACK_REASONS 655360
+#define SHAYDHOQEL_STACK_STRIP 524288
+#define SHAYDHOQEL_STACK_RECEIVE 524288
+#define SHAYDHOQEL_STACK_SHOW 524288
+#define SHAYDHOQEL_STACK_REASONS 524288
 
 /* Figures of the cells, in one buffer: figure f of entity e stands at index f * SHAYDHOQEL_ENTITIES + e. A later library may know more
    figures. They stand behind these, so that no index moves, and a caller that lends room for these sees no other. */

@@ -34,12 +34,10 @@ static uint8_t tray[9997 * SHAYDHOQEL_TRAY_RECORD], many_tray[6664 * SHAYDHOQEL_
 static uint8_t file[SHAYDHOQEL_FILE_LIMIT], many[SHAYDHOQEL_FILE_LIMIT], files[FILES * SHAYDHOQEL_FILE_LIMIT];
 static size_t many_length;
 
-/* Of many batches, with a first number above the others that leaves the remainder of the last: all numbers have to be looked at. And its
-   extract. */
+/* Of many batches, with a first number above the others: all numbers have to be looked at. And its extract. */
 static uint8_t fallen[SHAYDHOQEL_FILE_LIMIT], fallen_handed[SHAYDHOQEL_FILE_LIMIT];
-#define MANY 3332
 #define FIRST_NUMBER (2 * SHAYDHOQEL_RECORD + 87)
-#define REMAINDERS 65536
+#define HIGHEST_NUMBER "9999999"
 
 /* An extract of rejections, from a tray of as many as can be, every other with a text of its own; and a motive list. */
 static uint8_t rejected[9997 * SHAYDHOQEL_TRAY_RECORD], returned[SHAYDHOQEL_FILE_LIMIT], motives[SHAYDHOQEL_MOTIVES];
@@ -103,11 +101,9 @@ static uint64_t place_of(size_t i) {
     return faults[i].number == SHAYDHOQEL_REFUSED_ADDITIONAL ? FAULTY + 1 : FAULTY;
 }
 
-/* The first individual of a file of so many batches gets that number. */
-static void put_fall(uint8_t *changed, int batches) {
-    char number[8];
-    snprintf(number, sizeof number, "%07d", REMAINDERS + batches);
-    memcpy(changed + FIRST_NUMBER, number, 7);
+/* The first individual of a file gets that number. */
+static void put_fall(uint8_t *changed) {
+    memcpy(changed + FIRST_NUMBER, HIGHEST_NUMBER, sizeof HIGHEST_NUMBER - 1);
 }
 
 /* ---- the jobs: every call with its answers, in one number */
@@ -184,7 +180,7 @@ static uint64_t job_listing(struct lent *lent) {
     const size_t batches = 231, many_length = (2 + 3 * batches) * SHAYDHOQEL_RECORD;
     built = shaydhoqel_build(OPENING, header, sizeof header, many_tray, 2 * batches * SHAYDHOQEL_TRAY_RECORD, lent->out, sizeof file);
     heard(&sum, built, 0, many_length);
-    put_fall(lent->out, (int)batches);
+    put_fall(lent->out);
     length = shaydhoqel_listing(lent->out, many_length, lent->listing);
     REQUIRE(memcmp(lent->listing, "ENTITY", 6) == 0);
     add(&sum, lent->listing, length);
@@ -438,9 +434,9 @@ static void make_inputs(const uint8_t *l) {
     }
     REQUIRE(shaydhoqel_build(OPENING, header, sizeof header, tray, sizeof tray, file, sizeof file).place == sizeof file);
     many_length = shaydhoqel_build(OPENING, header, sizeof header, many_tray, sizeof many_tray, many, sizeof many).place;
-    REQUIRE(many_length == (2 + 3 * MANY) * SHAYDHOQEL_RECORD);
+    REQUIRE(many_length == (2 + 3 * 3332) * SHAYDHOQEL_RECORD);
     memcpy(fallen, many, many_length);
-    put_fall(fallen, MANY);
+    put_fall(fallen);
     REQUIRE(shaydhoqel_extract(OPENING, 402, fallen, many_length, fallen_handed, sizeof fallen_handed).place == many_length);
     for (size_t i = 0; i < FILES; i++) {
         memcpy(files + i * sizeof file, file, sizeof file);

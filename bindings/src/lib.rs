@@ -84,37 +84,37 @@ pub const IN_MOTIVES: u64 = 2;
 pub const OPENING: u64 = u64::MAX;
 
 /// Bytes of stack that suffice for a thread that makes any call. Those that follow suffice for the call that they name.
-pub const STACK: usize = 786_432;
+pub const STACK: usize = 655_360;
 
 /// For [`Opening::read`].
-pub const STACK_READ: usize = 589_824;
+pub const STACK_READ: usize = 393_216;
 
 /// For [`Opening::day`].
-pub const STACK_DAY: usize = 786_432;
+pub const STACK_DAY: usize = 655_360;
 
 /// For [`Opening::day_listing`].
-pub const STACK_DAY_LISTING: usize = 786_432;
+pub const STACK_DAY_LISTING: usize = 655_360;
 
 /// For [`listing`].
-pub const STACK_LISTING: usize = 786_432;
+pub const STACK_LISTING: usize = 458_752;
 
 /// For [`Opening::extract`].
-pub const STACK_EXTRACT: usize = 655_360;
+pub const STACK_EXTRACT: usize = 524_288;
 
 /// For [`Opening::build`].
 pub const STACK_BUILD: usize = 131_072;
 
 /// For [`Opening::strip`].
-pub const STACK_STRIP: usize = 655_360;
+pub const STACK_STRIP: usize = 524_288;
 
 /// For [`Opening::receive`].
-pub const STACK_RECEIVE: usize = 655_360;
+pub const STACK_RECEIVE: usize = 524_288;
 
 /// For [`Opening::show`].
-pub const STACK_SHOW: usize = 655_360;
+pub const STACK_SHOW: usize = 524_288;
 
 /// For [`Opening::reasons`].
-pub const STACK_REASONS: usize = 655_360;
+pub const STACK_REASONS: usize = 524_288;
 
 /// What the program `positions` prints for this input: the listing of one file, or its refusal.
 pub fn listing(input: &[u8]) -> Vec<u8> {

@@ -33,14 +33,12 @@ struct Inputs {
     motives: Vec<u8>,
 }
 
-/// As many batches of one order as a file takes, the first number above the others and with the remainder of the last by 65,536.
+/// As many batches of one order as a file takes, the first number above the others.
 fn fallen(batch: &[u8]) -> Vec<u8> {
-    const BATCHES: usize = 3_332;
-    let tray = batch.repeat(BATCHES);
+    let tray = batch.repeat(3_332);
     let (answer, mut file) = lent(FILE_LIMIT, |out| OPENING.build(record(L, 0), &tray, out));
     file.truncate(answer.expect("a good tray"));
-    let number = format!("{:07}", 65_536 + BATCHES);
-    file[2 * RECORD + 87..3 * RECORD].copy_from_slice(number.as_bytes());
+    file[2 * RECORD + 87..3 * RECORD].copy_from_slice(b"9999999");
     assert_eq!(OPENING.read(&file), Ok(file.len() / RECORD));
     file
 }

@@ -5,9 +5,9 @@ use mathlib.Core.List.{List}
 use mathlib.Core.Path.{_≡_}
 use Rattle.paper.specs.Answers.{numberOf}
 use Rattle.paper.specs.Checks.{Check, fine, wrong, need, _also_}
-use Rattle.paper.specs.Fields.{field, blank, digits, is, number}
+use Rattle.paper.specs.Fields.{field, blank, digits, is}
 use Rattle.paper.specs.Kinds.{codeOf}
-use Rattle.paper.specs.Records.{amountOf, destinationField, informationGood, flagGood, counterGood}
+use Rattle.paper.specs.Records.{amountOf, destinationField, numberIn, informationGood, flagGood, counterGood}
 use Rattle.entries.specs.declared.individual.Entry.{Entry}
 use Rattle.entries.specs.declared.individual.Judged.{Judged}
 use Rattle.entries.specs.declared.individual.Judged.the-variants as judged
@@ -16,7 +16,7 @@ use Rattle.entries.specs.declared.individual.Moved.the-variants as moved
 
 -- the numbers of an individual record
 unfoldable pub entryOf : List ℕ → Entry
-entryOf r = record { code = codeOf r; destination = destinationField r; amount = amountOf r; counter = number (field r 88 94) }
+entryOf r = record { code = codeOf r; destination = destinationField r; amount = amountOf r; counter = numberIn r }
 
 unfoldable pub judgedSays : Judged → Check
 judgedSays (judged.Good entry) = fine

@@ -103,7 +103,7 @@ fn destination(terms: Terms, roster: &[bool; Rules::ROSTER], n: u64) -> Verdict
     let currency = terms.currency;
     let reader = terms.reader;
     if entity::in_currency(currency, n) {
-        return addressed(reader, roster, n % Currency::DOLLARS_ADD);
+        return addressed(reader, roster, entity::own(currency, n));
     }
     if entity::in_currency(Currency::Pesos, n) | entity::in_currency(Currency::Dollars, n) {
         return Verdict::Wrong(Fault::Currency);

@@ -1,3 +1,4 @@
 pub mod Arms
 pub mod Numbers
 pub mod Words
+pub mod Currencies

@@ -1,10 +1,11 @@
 // Entity fields: four digits for the entity, four for a branch that is not judged.
 ghost use mathlib.Core.Path.{_≡_};
-ghost use mathlib.Core.List.{List};
-ghost use Prim.Native.Nat.{ℕ, _+_, _<_};
+ghost use mathlib.Core.Bool.{true};
+ghost use Prim.Native.Nat.{_+_, _%_, _<_};
 ghost use Rattle.paper.specs.Fields.{field};
 ghost use Rattle.paper.specs.Entities.{entityValue, ofCurrency, entityField, entity, onRoster};
 ghost use Rattle.characters.specs.Part.{HasField};
+ghost use Rattle.field.specs.Currencies.{inCurrency};
 use characters::number;
 use paper::rules::Currency;
 use paper::rules::Rules;
@@ -19,11 +20,22 @@ fn entity_value(rec: &[u8], first: usize, last: usize) -> u64
 
 // The number in the four digits for the entity, of this currency.
 pub fn in_currency(currency: Currency, n: u64) -> bool
-    ensures { λ r. ⌜ ((f : List ℕ) → entityValue f ≡ n → r ≡ ofCurrency currency f) ⌝ }
+    ensures { λ r. ⌜ r ≡ inCurrency currency n ⌝ }
 {
     match currency {
         Currency::Pesos => number::within(1, Currency::LAST, n),
         Currency::Dollars => number::within(Currency::DOLLARS_FIRST, Currency::DOLLARS_LAST, n),
+    }
+}
+
+// The entity's own number, from that of its currency. The compiler takes a remainder for two multiplications.
+pub fn own(currency: Currency, n: u64) -> u64
+    requires { ⌜ inCurrency currency n ≡ true ⌝ }
+    ensures { λ r. ⌜ (r ≡ n % 500) × (r < 500) ⌝ }
+{
+    match currency {
+        Currency::Pesos => n,
+        Currency::Dollars => n - Currency::DOLLARS_ADD,
     }
 }
 

@@ -51,7 +51,7 @@ pub fn counter(rec: &[u8]) -> Sequence
     Sequence::Number(high % THREE_DIGITS * FOUR_DIGITS + low)
 }
 
-// 88 to 94; nothing where that is not seven digits.
+// 88 to 94; 0 where that is not seven digits.
 pub fn number(rec: &[u8]) -> u64
     requires { ⌜ length (now rec) ≡ 94 ⌝ }
     ensures { λ r. ⌜ (r ≡ numberIn (now (rec .entry))) × (r < 10 ^ 7) ⌝ }

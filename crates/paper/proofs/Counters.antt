@@ -1,32 +1,39 @@
 -- What the numbers of individual records come to: all different in an accepted file, and as before where they ascend through the file.
-use Prim.Native.Nat.{ℕ, zero, suc, _+_, _≤_, _<_, _^_, _/_, _%_, _*_}
-use native.Mathlib.Nat.{div-add-mod', mod-eq-of-lt}
+use Prim.Native.Nat.{ℕ, _≤_, _<_}
 use native.Mathlib.Omega.{arith}
 use mathlib.Core.Bool.{Bool, true, false, not, _&&_, _||_, cond}
-use mathlib.Core.List.{List, [], _∷_, _++_, map}
+use mathlib.Core.List.{List, [], _∷_}
+use mathlib.Core.Logic.{_↔_}
 use mathlib.Core.Path.{_≡_, refl, sym, ap, _∙_}
 use lib.Dec.{T, eqb, ltb, ltb→lt, lt→ltb}
-use lib.ListN.{length, drop, length-map}
-use borrow.Author.Tests.{not-true, eq-eqb, ne-eqb, eqb-true}
+use borrow.Author.Tests.{not-true, eq-eqb, eqb-true}
 use Rattle.paper.specs.declared.record.Kind.{Kind}
 use Rattle.paper.specs.declared.record.Kind.the-variants.{FileHeader, BatchHeader, Individual, Additional, BatchControl, FileControl, Other}
 use Rattle.paper.specs.Answers.{accepted}
-use Rattle.paper.specs.Checks.{Check, fine, wrong, need, _also_}
-use Rattle.paper.specs.Fields.{field, among, every, good, same, digits, value, valueFrom, number}
-use Rattle.paper.specs.Kinds.{isIndividual, kind, kindOf, allowed}
+use Rattle.paper.specs.Checks.{fine}
+use Rattle.paper.specs.Fields.{field, among, good, same, valueFrom, number}
+use Rattle.paper.specs.Kinds.{opensBatch, isIndividual, kind, kindOf}
 use Rattle.paper.specs.Records.{ReadingRules, numberIn, counterGood, individual}
-use Rattle.paper.specs.Reading.{Reckoning, nothingCounted, counted, State, start, lastIndividual, stateNext, next, fields, judged, parts, recordsOf, readingBy}
-use Rattle.paper.specs.Writing.{spelled, numbered, batchControlOf, fileControlOf, owed, owedBefore, ending, withControls}
-use Rattle.paper.specs.Trays.{batchesAfter, individualsAfter, numberedBy, numbering, trayRecords, build}
+use Rattle.paper.specs.Reading.{State, start, lastIndividual, counterNext, seenNext, stateNext, next, fields, judged, recordsOf, readingBy}
 use Rattle.paper.specs.Demands.{Faultless}
-use Rattle.paper.specs.Counters.{numbersIn, allDifferent, countingFrom, formerFields, formerJudged, FormerlyFaultless, FormerlyAccepts}
-use Rattle.paper.proofs.Tests.{and-l, and-r, and-both, T-of, of-T}
+use Rattle.paper.specs.Counters.{numbersIn, allDifferent, ascending, fieldsAbove, judgedAbove, FaultlessAbove, AcceptsOtherwise, previousNumber, FormerlyAccepts}
+use Rattle.paper.proofs.Tests.{not-both, and-l, and-r, and-both, of-T}
 use Rattle.paper.proofs.Exactly.{also-l, also-r, need-T, fine-also, need-met, accepted-by}
-use Rattle.paper.proofs.Lists.{Sized, length-parts, sized-parts, kind-numbered}
-use Rattle.paper.proofs.Spelling.{digits-spelled, value-spelled}
-use Rattle.paper.proofs.Normal.{field-numbered}
-use Rattle.paper.proofs.Closing.{afterWriting, closing-records}
-use Rattle.paper.proofs.Round.{numbering-sized, bodies-sized}
+
+-- ---- an individual record after another number
+
+pub exceeds : (rules : ReadingRules) (header : List ℕ) (p : ℕ) (r : List ℕ) → individual rules header p r ≡ fine → p < numberIn r
+unfolding individual counterGood
+exceeds rules header p r h =
+    ltb→lt p (numberIn r) (and-r (same (field r 80 87) (field header 80 87)) (ltb p (numberIn r)) (need-T _ 27 (also-r _ _ h)))
+
+-- after one that it exceeds too
+individual-above : (rules : ReadingRules) (header : List ℕ) (p q : ℕ) (r : List ℕ) → q < numberIn r → individual rules header p r ≡ fine → individual rules header q r ≡ fine
+unfolding individual counterGood
+individual-above rules header p q r lt h =
+    let s : Bool = same (field r 80 87) (field header 80 87) in
+    let t : T (s && ltb p (numberIn r)) = need-T _ 27 (also-r _ _ h) in
+    fine-also _ _ (also-l _ _ h) (need-met _ 27 (and-both s (ltb q (numberIn r)) (and-l s (ltb p (numberIn r)) t) (lt→ltb q (numberIn r) lt)))
 
 -- ---- all different
 
@@ -52,43 +59,90 @@ new-different seen (n ∷ ns) w =
     let once : among ns n ≡ false = not-again (n ∷ seen) ns n (rw (eq-eqb n n refl) refl) (w .1) in
     and-both (not (among ns n)) (allDifferent ns) (rw once tt) (new-different (n ∷ seen) ns (w .1))
 
-new-read : (rules : ReadingRules) (rs : List (List ℕ)) (s : State) → Faultless rules s rs → New (s .seen) (numbersIn rs)
-unfolding numbersIn next judged fields
-new-read rules [] s h = tt
-new-read rules (r ∷ rs) s h = go (kindOf r) (also-r _ _ (h .0)) (new-read rules rs (next s r) (h .1))
+different-new : (seen ns : List ℕ) → ((m : ℕ) → among seen m ≡ true → among ns m ≡ false) → T (allDifferent ns) → New seen ns
+unfolding allDifferent among
+different-new seen [] apart t = tt
+different-new seen (n ∷ ns) apart t =
+    let later : among ns n ≡ false = not-true _ (of-T _ (and-l (not (among ns n)) (allDifferent ns) t)) in
+    (here (among seen n) refl, different-new (n ∷ seen) ns (λ m. further m (eqb m n) refl later) (and-r (not (among ns n)) (allDifferent ns) t))
   where
-    go : (k : Kind) → fields k rules s r ≡ fine → New (cond (isIndividual k) (numberIn r ∷ s .seen) (s .seen)) (numbersIn rs)
-        → New (s .seen) (cond (isIndividual k) (numberIn r ∷ numbersIn rs) (numbersIn rs))
-    go FileHeader f w = w
-    go BatchHeader f w = w
-    go Individual f w = (not-true _ (of-T _ (need-T _ 27 (also-r _ _ f))), w)
-    go Additional f w = w
-    go BatchControl f w = w
-    go FileControl f w = w
-    go Other f w = w
+    here : (b : Bool) → among seen n ≡ b → b ≡ false
+    here true e = sym (rw (eq-eqb n n refl) refl) ∙ apart n e
+    here false e = refl
 
--- whoever reads
+    further : (m : ℕ) (b : Bool) → eqb m n ≡ b → among ns n ≡ false → b || among seen m ≡ true → among ns m ≡ false
+    further m true e later h = ap (among ns) (eqb-true m n e) ∙ later
+    further m false e later h = sym (rw e refl) ∙ apart m h
+
+-- ---- exactly what is asked of the numbers
+
+-- at a record of a kind, with what is asked of those behind it
+exact-step : (k : Kind) (rules : ReadingRules) (s : State) (r : List ℕ) (rs : List (List ℕ)) (ns : List ℕ)
+    → ((fields k rules s r ≡ fine) × T (ascending (counterNext k (s .counter) r) rs) × New (seenNext k (s .seen) r) ns)
+    ↔ ((fieldsAbove (λ s. 0) k rules s r ≡ fine) × T (cond (opensBatch k) (ascending 0 rs) (cond (isIndividual k) (ltb (s .counter) (numberIn r) && ascending (numberIn r) rs) (ascending (s .counter) rs))) × New (s .seen) (cond (isIndividual k) (numberIn r ∷ ns) ns))
+unfolding fields fieldsAbove
+exact-step FileHeader rules s r rs ns = (λ h. h, λ h. h)
+exact-step BatchHeader rules s r rs ns = (λ h. h, λ h. h)
+exact-step Individual rules s r rs ns = (there, back)
+  where
+    least : ℕ
+    least = s .counter
+
+    there : ((fields Individual rules s r ≡ fine) × T (ascending (numberIn r) rs) × New (numberIn r ∷ s .seen) ns)
+        → ((individual rules (s .counts .header) 0 r ≡ fine) × T (ltb least (numberIn r) && ascending (numberIn r) rs) × New (s .seen) (numberIn r ∷ ns))
+    there h =
+        let f = also-l _ _ (h .0) in
+        let lt = exceeds rules (s .counts .header) least r f in (
+          individual-above rules (s .counts .header) least 0 r (omega arith) f,
+          and-both (ltb least (numberIn r)) (ascending (numberIn r) rs) (lt→ltb least (numberIn r) lt) (h .1),
+          (not-true _ (of-T _ (need-T _ 27 (also-r _ _ (h .0)))), h .2),
+        )
+
+    back : ((individual rules (s .counts .header) 0 r ≡ fine) × T (ltb least (numberIn r) && ascending (numberIn r) rs) × New (s .seen) (numberIn r ∷ ns))
+        → ((fields Individual rules s r ≡ fine) × T (ascending (numberIn r) rs) × New (numberIn r ∷ s .seen) ns)
+    back h =
+        let lt = ltb→lt least (numberIn r) (and-l (ltb least (numberIn r)) (ascending (numberIn r) rs) (h .1)) in (
+          fine-also _ _ (individual-above rules (s .counts .header) 0 least r lt (h .0)) (need-met _ 27 (rw (h .2 .0) tt)),
+          and-r (ltb least (numberIn r)) (ascending (numberIn r) rs) (h .1),
+          h .2 .1,
+        )
+exact-step Additional rules s r rs ns = (λ h. h, λ h. h)
+exact-step BatchControl rules s r rs ns = (λ h. h, λ h. h)
+exact-step FileControl rules s r rs ns = (λ h. h, λ h. h)
+exact-step Other rules s r rs ns = (λ h. h, λ h. h)
+
+exact-from : (rules : ReadingRules) (rs : List (List ℕ)) (s : State)
+    → Faultless rules s rs ↔ (FaultlessAbove (λ s. 0) rules s rs × T (ascending (s .counter) rs) × New (s .seen) (numbersIn rs))
+unfolding ascending numbersIn next judged judgedAbove
+exact-from rules [] s = (λ h. (h, tt, tt), λ h. h .0)
+exact-from rules (r ∷ rs) s =
+    let step = exact-step (kindOf r) rules s r rs (numbersIn rs) in
+    let later = exact-from rules rs (next s r) in (
+      (λ h. let l = later .0 (h .1) in let f = step .0 (also-r _ _ (h .0), l .1, l .2) in ((fine-also _ _ (also-l _ _ (h .0)) (f .0), l .0), f .1, f .2)),
+      (λ h. let f = step .1 (also-r _ _ (h .0 .0), h .1, h .2) in (fine-also _ _ (also-l _ _ (h .0 .0)) (f .0), later .1 (h .0 .1, f .1, f .2))),
+    )
+
+-- whoever reads: where all else is good, in each batch they ascend from above 0, and all are different
+pub numbered-exactly : (rules : ReadingRules) (file : List ℕ)
+    → (readingBy rules file ≡ accepted) ↔ (AcceptsOtherwise rules file × T (ascending 0 (recordsOf file)) × T (allDifferent (numbersIn (recordsOf file))))
+unfolding start among
+numbered-exactly rules file =
+    let a = accepted-by rules file in
+    let e = exact-from rules (recordsOf file) start in
+    let ns = numbersIn (recordsOf file) in (
+      (λ h. let w = a .0 h in let f = e .0 (w .1) in ((w .0, f .0), f .1, new-different [] ns (f .2))),
+      (λ h. a .1 (h .0 .0, e .1 (h .0 .1, h .1, different-new [] ns (λ m no. absurd (not-both no refl)) (h .2)))),
+    )
+
 pub accepted-different : (rules : ReadingRules) (file : List ℕ) → readingBy rules file ≡ accepted → T (allDifferent (numbersIn (recordsOf file)))
-unfolding start
-accepted-different rules file h = new-different [] (numbersIn (recordsOf file)) (new-read rules (recordsOf file) start (accepted-by rules file .0 h .1))
+accepted-different rules file h = numbered-exactly rules file .0 h .2
 
 -- ---- what the rule before request 3 accepted
 
 -- numbers have ascended through the file
 record Ascended (s : State) : Type 0 where
-  counter : s .counter ≤ numberIn (s .individual)
-  seen : (n : ℕ) → among (s .seen) n ≡ true → n ≤ numberIn (s .individual)
-
--- after a smaller number too
-pub individual-after : (rules : ReadingRules) (header : List ℕ) (p q : ℕ) (r : List ℕ) → q ≤ p → individual rules header p r ≡ fine
-    → (individual rules header q r ≡ fine) × (p < numberIn r)
-unfolding individual counterGood
-individual-after rules header p q r o h =
-    let s : Bool = same (field r 80 87) (field header 80 87) in
-    let t : T (s && ltb p (numberIn r)) = need-T _ 27 (also-r _ _ h) in
-    let lt : p < numberIn r = ltb→lt p (numberIn r) (and-r s (ltb p (numberIn r)) t) in
-    let u : T (s && ltb q (numberIn r)) = and-both s (ltb q (numberIn r)) (and-l s (ltb p (numberIn r)) t) (lt→ltb q (numberIn r) (omega arith)) in
-    (fine-also _ _ (also-l _ _ h) (need-met _ 27 u), lt)
+  counter : s .counter ≤ previousNumber s
+  seen : (n : ℕ) → among (s .seen) n ≡ true → n ≤ previousNumber s
 
 above-all : (seen : List ℕ) (p n : ℕ) → ((m : ℕ) → among seen m ≡ true → m ≤ p) → p < n → T (not (among seen n))
 above-all seen p n below lt = go (among seen n) (below n)
@@ -105,22 +159,24 @@ still-above seen p n below lt m = go (eqb m n) refl
     go true e h = omega (arith, eqb-true m n e)
     go false e h = omega (arith, below m h)
 
-former-step : (k : Kind) (rules : ReadingRules) (s : State) (r : List ℕ) → Ascended s → formerFields k rules s r ≡ fine
+former-step : (k : Kind) (rules : ReadingRules) (s : State) (r : List ℕ) → Ascended s → fieldsAbove previousNumber k rules s r ≡ fine
     → (fields k rules s r ≡ fine) × Ascended (stateNext k s r)
-unfolding formerFields fields lastIndividual
+unfolding fieldsAbove fields lastIndividual
 former-step FileHeader rules s r a f = (f, record { counter = a .counter; seen = a .seen })
 former-step BatchHeader rules s r a f = (f, record { counter = omega arith; seen = a .seen })
 former-step Individual rules s r a f =
-    let x = individual-after rules (s .counts .header) (numberIn (s .individual)) (s .counter) r (a .counter) f in
-    let new = above-all (s .seen) (numberIn (s .individual)) (numberIn r) (a .seen) (x .1) in
-    (fine-also _ _ (x .0) (need-met _ 27 new), record { counter = omega arith; seen = still-above (s .seen) (numberIn (s .individual)) (numberIn r) (a .seen) (x .1) })
+    let p = previousNumber s in
+    let lt = exceeds rules (s .counts .header) p r f in (
+      fine-also _ _ (individual-above rules (s .counts .header) p (s .counter) r (omega (arith, a .counter)) f) (need-met _ 27 (above-all (s .seen) p (numberIn r) (a .seen) lt)),
+      record { counter = omega arith; seen = still-above (s .seen) p (numberIn r) (a .seen) lt },
+    )
 former-step Additional rules s r a f = (f, record { counter = a .counter; seen = a .seen })
 former-step BatchControl rules s r a f = (f, record { counter = a .counter; seen = a .seen })
 former-step FileControl rules s r a f = (f, record { counter = a .counter; seen = a .seen })
 former-step Other rules s r a f = (f, record { counter = a .counter; seen = a .seen })
 
-former-reads : (rules : ReadingRules) (rs : List (List ℕ)) (s : State) → Ascended s → FormerlyFaultless rules s rs → Faultless rules s rs
-unfolding formerJudged judged next
+former-reads : (rules : ReadingRules) (rs : List (List ℕ)) (s : State) → Ascended s → FaultlessAbove previousNumber rules s rs → Faultless rules s rs
+unfolding judgedAbove judged next
 former-reads rules [] s a h = h
 former-reads rules (r ∷ rs) s a h =
     let x = former-step (kindOf r) rules s r a (also-r _ _ (h .0)) in
@@ -129,97 +185,4 @@ former-reads rules (r ∷ rs) s a h =
 pub formerly-accepted : (rules : ReadingRules) (file : List ℕ) → FormerlyAccepts rules file → readingBy rules file ≡ accepted
 unfolding start among number valueFrom
 formerly-accepted rules file h =
-    accepted-by rules file .1 (h .0, former-reads rules (recordsOf file) start (record { counter = omega arith; seen = λ n e. absurd (no e) }) (h .1))
-  where
-    no : false ≡ true → ⊥
-    no e = let z : _≡_ {A = ℕ} 0 1 = cc in omega arith
-
--- ---- what is built is numbered 1, 2, ..
-
-numbers-append : (a b : List (List ℕ)) → numbersIn (a ++ b) ≡ numbersIn a ++ numbersIn b
-unfolding numbersIn
-numbers-append [] b = refl
-numbers-append (r ∷ a) b = go (isIndividual (kindOf r)) (numbers-append a b)
-  where
-    go : (i : Bool) → numbersIn (a ++ b) ≡ numbersIn a ++ numbersIn b
-        → cond i (numberIn r ∷ numbersIn (a ++ b)) (numbersIn (a ++ b)) ≡ cond i (numberIn r ∷ numbersIn a) (numbersIn a) ++ numbersIn b
-    go true h = ap (λ (l : List ℕ). numberIn r ∷ l) h
-    go false h = h
-
-numbers-owed : (n : ℕ) (c : Reckoning) → numbersIn (owed n c) ≡ []
-unfolding numbersIn owed batchControlOf kindOf kind
-numbers-owed zero c = refl
-numbers-owed (suc n) c = refl
-
-numbers-before : (k : Kind) (c : Reckoning) → numbersIn (owedBefore k c) ≡ []
-unfolding owedBefore numbersIn
-numbers-before FileHeader c = refl
-numbers-before BatchHeader c = numbers-owed (c .batches) c
-numbers-before Individual c = refl
-numbers-before Additional c = refl
-numbers-before BatchControl c = refl
-numbers-before FileControl c = refl
-numbers-before Other c = refl
-
--- controls have none
-numbers-controls : (rs : List (List ℕ)) (c : Reckoning) → numbersIn (withControls c rs) ≡ numbersIn rs
-unfolding withControls ending numbersIn fileControlOf kindOf kind
-numbers-controls [] c = numbers-append (owed (c .batches) c) _ ∙ ap (λ (l : List ℕ). l ++ []) (numbers-owed (c .batches) c)
-numbers-controls (r ∷ rs) c =
-    numbers-append (owedBefore (kindOf r) c) (r ∷ withControls (afterWriting (kindOf r) c r) rs)
-    ∙ rw (numbers-before (kindOf r) c, numbers-controls rs (afterWriting (kindOf r) c r)) refl
-
-kind-kept : (k : Kind) (b n : ℕ) (r : List ℕ) → length r ≡ 94 → kindOf (numberedBy k b n r) ≡ kindOf r
-unfolding numberedBy
-kind-kept FileHeader b n r l = refl
-kind-kept BatchHeader b n r l = kind-numbered (suc b) r (omega arith)
-kind-kept Individual b n r l = kind-numbered (suc n) r (omega arith)
-kind-kept Additional b n r l = kind-numbered n r (omega arith)
-kind-kept BatchControl b n r l = refl
-kind-kept FileControl b n r l = refl
-kind-kept Other b n r l = refl
-
-number-numbered : (n : ℕ) (r : List ℕ) → length r ≡ 94 → n < 10 ^ 7 → numberIn (numbered n r) ≡ n
-unfolding number
-number-numbered n r l h = rw (field-numbered n r (omega arith), of-T (digits (spelled 7 n)) (digits-spelled 7 n), value-spelled 7 n) (mod-eq-of-lt h)
-
-numbers-numbering : (rs : List (List ℕ)) (b n : ℕ) → Sized 94 rs → n + length rs < 10 ^ 7 → numbersIn (numbering b n rs) ≡ countingFrom (suc n) (length (numbersIn rs))
-unfolding numbering numbersIn countingFrom numberedBy batchesAfter individualsAfter
-numbers-numbering [] b n z h = refl
-numbers-numbering (r ∷ rs) b n z h =
-    rw (kind-kept (kindOf r) b n r (z .0))
-    (go (kindOf r) (λ b m o. numbers-numbering rs b m (z .1) o))
-  where
-    go : (k : Kind) → ((b m : ℕ) → m + length rs < 10 ^ 7 → numbersIn (numbering b m rs) ≡ countingFrom (suc m) (length (numbersIn rs)))
-        → cond (isIndividual k) (numberIn (numberedBy k b n r) ∷ numbersIn (numbering (batchesAfter k b) (individualsAfter k n) rs)) (numbersIn (numbering (batchesAfter k b) (individualsAfter k n) rs))
-        ≡ countingFrom (suc n) (length (cond (isIndividual k) (numberIn r ∷ numbersIn rs) (numbersIn rs)))
-    go FileHeader later = later b n (omega arith)
-    go BatchHeader later = later (suc b) n (omega arith)
-    go Individual later = rw (number-numbered (suc n) r (z .0) (omega arith), later b (suc n) (omega arith)) refl
-    go Additional later = later b n (omega arith)
-    go BatchControl later = later b n (omega arith)
-    go FileControl later = later b n (omega arith)
-    go Other later = later b n (omega arith)
-
--- whatever the tray holds
-pub built-numbers : (header tray : List ℕ) → length header ≡ 94 → isIndividual (kindOf header) ≡ false → length tray % 96 ≡ 0 → length tray / 96 < 10 ^ 7
-    → numbersIn (recordsOf (build header tray)) ≡ countingFrom 1 (length (numbersIn (map (drop 2) (trayRecords tray))))
-unfolding build trayRecords numbersIn
-built-numbers header tray h k m few =
-    let e : length tray ≡ length tray / 96 * 96 = omega (arith, div-add-mod' (length tray) 96) in
-    let bs : List (List ℕ) = map (drop 2) (parts 96 (length tray / 96) tray) in
-    let s : Sized 94 bs = bodies-sized (parts 96 (length tray / 96) tray) (sized-parts 96 (length tray / 96) tray e) in
-    let rs : List (List ℕ) = numbering 0 0 bs in
-    ap numbersIn (closing-records header rs h (numbering-sized bs 0 0 s))
-    ∙ rw k (numbers-controls rs (counted FileHeader nothingCounted header) ∙ numbers-numbering bs 0 0 s (omega (arith, length-map (parts 96 (length tray / 96) tray) (drop 2), length-parts 96 (length tray / 96) tray)))
-
-below-counting : (n k m : ℕ) → m < k → among (countingFrom k n) m ≡ false
-unfolding countingFrom among
-below-counting zero k m h = refl
-below-counting (suc n) k m h = rw (ne-eqb m k (omega arith), below-counting n (suc k) m (omega arith)) refl
-
--- so that all are different
-pub counting-different : (m n : ℕ) → T (allDifferent (countingFrom m n))
-unfolding countingFrom allDifferent
-counting-different m zero = tt
-counting-different m (suc n) = and-both (not (among (countingFrom (suc m) n) m)) (allDifferent (countingFrom (suc m) n)) (rw (below-counting n (suc m) m (omega arith)) tt) (counting-different (suc m) n)
+    accepted-by rules file .1 (h .0, former-reads rules (recordsOf file) start (record { counter = omega arith; seen = λ n e. absurd (not-both e refl) }) (h .1))

@@ -37,3 +37,4 @@ pub mod Carried
 pub mod Shared
 pub mod Size
 pub mod Counters
+pub mod BuiltNumbers

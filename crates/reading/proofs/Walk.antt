@@ -17,7 +17,7 @@ use Rattle.paper.specs.Reading.{nothingCounted, start, judged, next, finish, at
 use Rattle.paper.proofs.Tests.{T-of, within-range, and-l}
 use Rattle.paper.proofs.Places.{parts-from}
 use Rattle.paper.proofs.Lists.{length-parts}
-use Rattle.counters.specs.Numbers.{numbersBefore}
+use Rattle.repeats.specs.Numbers.{numbersBefore}
 use Rattle.state.specs.declared.State.{State}
 use Rattle.state.specs.States.{meant, goes, stops, afterRecord}
 

@@ -4,19 +4,18 @@ use native.Mathlib.Omega.{arith}
 use mathlib.Core.Bool.{Bool, true, false, cond, _||_}
 use mathlib.Core.List.{List, [], _∷_}
 use mathlib.Core.Path.{_≡_, refl, sym, _∙_}
-use lib.Dec.{eqb, ltb, ltb→lt}
+use lib.Dec.{eqb}
 use lib.ListN.{length}
 use Rattle.paper.specs.declared.record.Before.{Before}
 use Rattle.paper.specs.declared.record.Before.the-variants.{Opened, Inside}
 use Rattle.paper.specs.declared.rules.Rules.{Rules}
 use Rattle.paper.specs.Checks.{fine}
-use Rattle.paper.specs.Fields.{field, among, same}
-use Rattle.paper.specs.Records.{inHouse, atDesk, numberIn, counterGood, batchHeader, individual}
+use Rattle.paper.specs.Fields.{among}
+use Rattle.paper.specs.Records.{inHouse, atDesk, numberIn, batchHeader, individual}
 use Rattle.paper.specs.Controls.{zeros}
 use Rattle.paper.specs.Writing.{numbered}
 use Rattle.paper.specs.Extract.{Item, Batch, isTo, itemsTo, holding, batchesTo}
-use Rattle.paper.proofs.Tests.{and-r}
-use Rattle.paper.proofs.Accepted.{individual-read}
+use Rattle.paper.proofs.Counters.{exceeds}
 use Rattle.received.proofs.Written.{Fits}
 use Rattle.received.proofs.Handed.{individual-handed, header-handed}
 use Rattle.received.proofs.Tallies.{tallied, fits-most, most-own, tallied-to}
@@ -35,14 +34,6 @@ OpensAt rules e b = Filled Opened (b .items) × ((n : ℕ) → suc n < 10 ^ 7 �
 
 abbrev pub ReadsAt : Rules → ℕ → List ℕ → ℕ → List ℕ → Type 0
 ReadsAt rules e header previous r = (n : ℕ) → individual (atDesk e rules) (numbered n header) previous r ≡ fine
-
--- ---- items
-
--- the counter rises
-rises : (rules : Rules) (header : List ℕ) (p : ℕ) (r : List ℕ) → individual (inHouse rules) header p r ≡ fine → p < numberIn r
-unfolding counterGood
-rises rules header p r h =
-    ltb→lt p (numberIn r) (and-r (same (field r 80 87) (field header 80 87)) (ltb p (numberIn r)) (individual-read rules header p r h .counter))
 
 -- ---- numbers seen by the desk were seen by the house
 
@@ -103,7 +94,7 @@ items-chosen rules e header l (i ∷ is) p q ns ms o a h =
         } in
         record { reads = (own, x .reads); seen = x .seen }
     go false t later =
-        let x = later q ms (omega (arith, rises rules header p (i .individual) (h .0 .reads))) (among-more ms ns next a) in
+        let x = later q ms (omega (arith, exceeds (inHouse rules) header p (i .individual) (h .0 .reads))) (among-more ms ns next a) in
         record { reads = x .reads; seen = x .seen }
 
 -- ---- batches

@@ -1,5 +1,5 @@
 -- What a batch counts of an individual record, by the numbers that its judge hands on.
-use Prim.Native.Nat.{ℕ, _+_, _^_, _<_}
+use Prim.Native.Nat.{ℕ, _^_, _<_}
 use mathlib.Core.Bool.{true, cond}
 use mathlib.Core.List.{List}
 use mathlib.Core.Path.{_≡_}
@@ -14,6 +14,7 @@ use Rattle.paper.proofs.Digits.{number-bound}
 use Rattle.controls.proofs.Sides.{sides}
 use Rattle.entries.specs.declared.individual.Entry.{Entry}
 use Rattle.entries.specs.Judging.{entryOf}
+use Rattle.state.specs.States.{withEntry}
 
 module _ (r : List ℕ) (entry : Entry) (is : entry ≡ entryOf r) where
   pub entry-small : length r ≡ 94 → (entry .destination < 10 ^ 8) × (entry .amount < 10 ^ 10)
@@ -24,12 +25,7 @@ module _ (r : List ℕ) (entry : Entry) (is : entry ≡ entryOf r) where
         number-bound 10 (field r 30 39) (simp (length-take, length-drop) (omega arith)),
       )
 
-  pub entered : known (entry .code) ≡ true → (tally : Tally) → record {
-    records = tally .records + 1;
-    destinations = tally .destinations + entry .destination;
-    debits = tally .debits + cond (collects (entry .code)) (entry .amount) 0;
-    credits = tally .credits + cond (collects (entry .code)) 0 (entry .amount);
-  } ≡ withIndividual tally r
+  pub entered : known (entry .code) ≡ true → (tally : Tally) → withEntry tally entry ≡ withIndividual tally r
   unfolding entryOf withIndividual
   entered k tally =
       let side : cond (collects (entry .code)) 0 (entry .amount) ≡ cond (pays (entry .code)) (entry .amount) 0 = rw k at (sides (entry .code) (entry .amount) .1) in

@@ -13,8 +13,9 @@ use Rattle.paper.specs.Fields.{among}
 use Rattle.paper.specs.Kinds.{isIndividual, kindOf}
 use Rattle.paper.specs.Records.{numberIn}
 use Rattle.paper.specs.Reading.{recordAt, counterNext, seenNext}
-use Rattle.counters.specs.Numbers.{numbersBefore, repeated, FreshTo, Looked}
-use Rattle.counters.proofs.Further.{one-more, fresh-further, nothing-known, repeated-at, not-both}
+use Rattle.paper.proofs.Tests.{not-both}
+use Rattle.repeats.specs.Numbers.{numbersBefore, repeated, FreshTo, Looked}
+use Rattle.repeats.proofs.Further.{one-more, fresh-further, nothing-known, repeated-at}
 use Rattle.state.specs.declared.State.{State}
 use Rattle.state.specs.States.{KnownIn, higher, FreshBy, KnowsIf, Knows, Ready}
 

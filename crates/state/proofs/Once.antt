@@ -16,7 +16,7 @@ use Rattle.state.specs.declared.State.{State}
 use Rattle.state.specs.declared.Step.{Step}
 use Rattle.state.specs.declared.Step.the-variants.{Next, Stop}
 use Rattle.state.specs.States.{AfterRecord, goes, stops, meant, stepSays, KnowsIf, Held}
-use Rattle.counters.proofs.Further.{looked-once}
+use Rattle.repeats.proofs.Further.{looked-once}
 
 -- the state that an outcome goes on with
 abbrev stateIn : paper.State → AfterRecord → paper.State

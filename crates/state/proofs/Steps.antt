@@ -16,15 +16,17 @@ use Rattle.paper.specs.Answers.{numberOf}
 use Rattle.paper.specs.Checks.{fine, wrong, need, _also_}
 use Rattle.paper.specs.Kinds.{opensBatch, isIndividual, isAdditional, closesBatch}
 use Rattle.paper.specs.Fields.{among}
-use Rattle.paper.specs.Records.{ReadingRules, numberIn, individual}
+use Rattle.paper.specs.Records.{ReadingRules, numberIn, flaggedIn, individual}
 use Rattle.paper.specs.Controls.{zeros, plus, withIndividual, withAdditional}
 use Rattle.paper.specs.Reading as paper
 use Rattle.paper.specs.Reading.{fields, beforeNext, lastIndividual, counterNext, batchNext, closedNext, counted, flag, recordAt}
 use Rattle.state.specs.declared.State.{State}
 use Rattle.state.specs.declared.Step.the-variants.{Next, Stop}
-use Rattle.state.specs.States.{meant, stepSays, afterRecord, stepped, Preceded, RoomToCount, Kept, headerPlace, individualPlace, higher, Knows, Held, StandsAfter, Ready, Entered, EntryTold, Advances, Steps}
-use Rattle.counters.specs.Numbers.{numbersBefore, repeated}
-use Rattle.counters.proofs.Further.{one-more, repeated-at}
+use Rattle.state.specs.States.{meant, stepSays, afterRecord, stepped, Preceded, RoomToCount, Kept, headerPlace, individualPlace, higher, beforeBy, counterBy, withEntry, batchBy, afterBy, pastBy, Knows, Held, StandsAfter, Ready, Entered, EntryTold, Advances, Steps}
+use Rattle.repeats.specs.Numbers.{numbersBefore, repeated}
+use Rattle.paper.proofs.Tests.{not-both}
+use Rattle.repeats.proofs.Further.{one-more, repeated-at}
+use Rattle.state.proofs.Entering.{entered}
 use Rattle.state.proofs.Numbering.{known-next}
 use Rattle.entries.specs.declared.individual.Entry.{Entry}
 use Rattle.entries.specs.Judging.{entryOf}
@@ -103,16 +105,31 @@ unfolding entryOf
 number-told true r entry h of a = ap (λ (e : Entry). of (e .counter)) (h refl .0)
 number-told false r entry h of a = refl
 
-pub counter-told : (kind : Kind) (counter : ℕ) (r : List ℕ) (entry : Entry) (flagged : Bool) → EntryTold kind counter r entry flagged
-    → cond (opensBatch kind) 0 (cond (isIndividual kind) (entry .counter) counter) ≡ counterNext kind counter r
-counter-told kind counter r entry flagged told = ap (λ (n : ℕ). cond (opensBatch kind) 0 n) (number-told (isIndividual kind) r entry (told .numbers) (λ n. n) counter)
+module _ {kind : Kind} {counter : ℕ} {r : List ℕ} {entry : Entry} {flagged : Bool} (told : EntryTold kind counter r entry flagged) where
+  counter-told : counterBy kind counter (entry .counter) ≡ counterNext kind counter r
+  counter-told = ap (λ (n : ℕ). cond (opensBatch kind) 0 n) (number-told (isIndividual kind) r entry (told .numbers) (λ n. n) counter)
+
+  batch-told : (t : Tally) → batchBy kind t entry ≡ batchNext kind t r
+  batch-told t = ap (λ (m : Tally). cond (opensBatch kind) zeros m) (go (isIndividual kind) (told .numbers) (cond (isAdditional kind) (withAdditional t) t))
+    where
+      go : (i : Bool) → (i ≡ true → Entered r entry) → (other : Tally) → cond i (withEntry t entry) other ≡ cond i (withIndividual t r) other
+      go true h other = entered r entry (h refl .0) (h refl .1) t
+      go false h other = refl
+
+-- whether it is flagged
+before-told : (kind : Kind) (r : List ℕ) (flagged : Bool) → (isIndividual kind ≡ true → flagged ≡ flaggedIn r) → beforeBy kind flagged ≡ beforeNext kind r
+unfolding beforeNext
+before-told FileHeader r flagged h = refl
+before-told BatchHeader r flagged h = refl
+before-told Individual r flagged h = ap flag (h refl)
+before-told Additional r flagged h = refl
+before-told BatchControl r flagged h = refl
+before-told FileControl r flagged h = refl
+before-told Other r flagged h = refl
 
 -- a record of another kind tells nothing
-pub nothing-told : {kind : Kind} {counter : ℕ} {r : List ℕ} {entry : Entry} {flagged : Bool} → isIndividual kind ≡ false → EntryTold kind counter r entry flagged
-nothing-told n = record { numbers = λ h. absurd (no n h); rises = λ h. absurd (no n h); flag = λ h. absurd (no n h) }
-  where
-    no : {b : Bool} → b ≡ false → b ≡ true → ⊥
-    no p q = let z : _≡_ {A = ℕ} 0 1 = cc in omega arith
+nothing-told : {kind : Kind} {counter : ℕ} {r : List ℕ} {entry : Entry} {flagged : Bool} → isIndividual kind ≡ false → EntryTold kind counter r entry flagged
+nothing-told n = record { numbers = λ h. absurd (not-both h n); rises = λ h. absurd (not-both h n); flag = λ h. absurd (not-both h n) }
 
 -- what stands at one of two places
 at-either : (file : List ℕ) (b : Bool) (m n : ℕ) → recordAt file (cond b m n) ≡ cond b (recordAt file m) (recordAt file n)
@@ -127,7 +144,7 @@ module _ {kind : Kind} {file : List ℕ} {place : ℕ} {st : State} (ready : Rea
   unfolding recordAt
   long = length-take-le 94 (drop (place * 94) file) (rw length-drop (omega (arith, ready .inside)))
 
-  pub advances : {next : State} → next .before ≡ beforeNext kind r → next .header ≡ headerPlace kind (st .header) place
+  advances : {next : State} → next .before ≡ beforeNext kind r → next .header ≡ headerPlace kind (st .header) place
       → next .individual ≡ individualPlace kind (st .individual) place → (isIndividual kind ≡ true → st .counter < numberIn r)
       → next .counter ≡ counterNext kind (st .counter) r → next .highest ≡ higher kind (st .highest) (st .counter) → Knows kind file place st (next .fresh)
       → next .batches ≡ cond (opensBatch kind) (st .batches + 1) (st .batches) → next .batch ≡ batchNext kind (st .batch) r
@@ -146,3 +163,13 @@ module _ {kind : Kind} {file : List ℕ} {place : ℕ} {st : State} (ready : Rea
     };
     held = record { header = header; individual = individual; highest = highest; fresh = fresh };
   }
+
+  -- after an individual record, by what it tells
+  pub after-advances : {entry : Entry} {flagged : Bool} (fresh : ℕ) → EntryTold kind (st .counter) r entry flagged → Knows kind file place st fresh
+      → Advances kind file place st (afterBy kind place st entry flagged fresh)
+  unfolding afterBy
+  after-advances fresh told knows = advances (before-told kind r _ (told .flag)) refl refl (told .rises) (counter-told told) refl knows refl (batch-told told (st .batch)) refl
+
+  -- after any other
+  pub past-advances : isIndividual kind ≡ false → Advances kind file place st (pastBy kind place st)
+  past-advances n = after-advances _ (nothing-told n) (rw n refl)

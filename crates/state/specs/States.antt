@@ -1,7 +1,7 @@
 -- What a state of the code means, and what a step of it says.
 use Prim.Native.Nat.{ℕ, _*_, _^_, _+_, _≤_, _<_}
 use mathlib.Core.Bool.{Bool, true, false, _&&_, cond}
-use mathlib.Core.List.{List}
+use mathlib.Core.List.{List, []}
 use mathlib.Core.Logic.{_⊎_}
 use mathlib.Core.Path.{_≡_}
 use lib.Dec.{ltb}
@@ -13,12 +13,15 @@ use Rattle.paper.specs.declared.record.Kind.the-variants.{FileHeader, BatchHead
 use Rattle.paper.specs.Answers.{numberOf}
 use Rattle.paper.specs.Checks.{Check, fine, wrong}
 use Rattle.paper.specs.Fields.{among}
-use Rattle.paper.specs.Kinds.{opensBatch, isIndividual, kindOf, known}
+use Rattle.paper.specs.declared.record.Code.the-variants.{Unknown}
+use Rattle.paper.specs.declared.record.Tally.{Tally}
+use Rattle.paper.specs.Kinds.{opensBatch, isIndividual, isAdditional, kindOf, known, collects}
+use Rattle.paper.specs.Controls.{zeros, withAdditional}
 use Rattle.paper.specs.Records.{ReadingRules, numberIn, flaggedIn}
 use Rattle.paper.specs.Reading as paper
 use Rattle.paper.specs.Reading.{recordAt}
 use Rattle.controls.specs.Bounds.{Below}
-use Rattle.counters.specs.Numbers.{numbersBefore, repeated, FreshTo, Looked}
+use Rattle.repeats.specs.Numbers.{numbersBefore, repeated, FreshTo, Looked}
 use Rattle.entries.specs.declared.individual.Entry.{Entry}
 use Rattle.entries.specs.Judging.{entryOf}
 use Rattle.state.specs.declared.State.{State}
@@ -130,6 +133,45 @@ individualPlace kind individual place = cond (isIndividual kind) place individua
 -- the largest number of the batches before: at a header the last of the batch that ends is one of them
 abbrev pub higher : Kind → ℕ → ℕ → ℕ
 higher kind highest counter = cond (opensBatch kind && ltb highest counter) counter highest
+
+-- the other figures, over what an individual record tells of itself: its numbers, and whether it is flagged; of any other nothing is asked
+abbrev pub beforeBy : Kind → Bool → Before
+beforeBy kind flagged = cond (isIndividual kind) (paper.flag flagged) (paper.beforeNext kind [])
+
+abbrev pub counterBy : Kind → ℕ → ℕ → ℕ
+counterBy kind counter number = cond (opensBatch kind) 0 (cond (isIndividual kind) number counter)
+
+abbrev pub batchesBy : Kind → ℕ → ℕ
+batchesBy kind batches = cond (opensBatch kind) (batches + 1) batches
+
+abbrev pub withEntry : Tally → Entry → Tally
+withEntry tally entry = record {
+  records = tally .records + 1;
+  destinations = tally .destinations + entry .destination;
+  debits = tally .debits + cond (collects (entry .code)) (entry .amount) 0;
+  credits = tally .credits + cond (collects (entry .code)) 0 (entry .amount);
+}
+
+abbrev pub batchBy : Kind → Tally → Entry → Tally
+batchBy kind batch entry = cond (opensBatch kind) zeros (cond (isIndividual kind) (withEntry batch entry) (cond (isAdditional kind) (withAdditional batch) batch))
+
+-- the code's state after a record of a kind; numbers are known to be new up to `fresh`
+unfoldable pub afterBy : Kind → ℕ → State → Entry → Bool → ℕ → State
+afterBy kind place st entry flagged fresh = record {
+  before = beforeBy kind flagged;
+  header = headerPlace kind (st .header) place;
+  individual = individualPlace kind (st .individual) place;
+  counter = counterBy kind (st .counter) (entry .counter);
+  highest = higher kind (st .highest) (st .counter);
+  fresh = fresh;
+  batches = batchesBy kind (st .batches);
+  batch = batchBy kind (st .batch) entry;
+  closed = paper.closedNext kind (st .closed) (st .batch);
+}
+
+-- after one that tells nothing
+abbrev pub pastBy : Kind → ℕ → State → State
+pastBy kind place st = afterBy kind place st (record { code = Unknown; destination = 0; amount = 0; counter = 0 }) false (st .fresh)
 
 -- up to where numbers are known to be new: as far as before where the number is above `highest`, else one looks
 pub record FreshBy (file : List ℕ) (place number highest known fresh : ℕ) : Type 0 where

@@ -5,7 +5,6 @@ ghost use Rattle.state.specs.States.{Ready, Steps};
 use crate::State;
 use crate::Step;
 use entries::additional;
-use entries::individual::Entry;
 use field::place::record_at;
 use paper::record::Kind;
 use verdicts::verdict::Verdict;
@@ -17,13 +16,7 @@ pub fn step(file: &[u8], place: usize, state: State) -> Step
     let rec = record_at(file, place);
     let individual = record_at(file, state.individual);
     match additional::judge(individual, rec) {
-        Verdict::Right => Step::Next(state.after(
-            Kind::Additional,
-            place,
-            Entry::NONE,
-            false,
-            state.fresh,
-        )),
+        Verdict::Right => Step::Next(state.past(Kind::Additional, place)),
         Verdict::Wrong(fault) => Step::Stop(fault),
     }
 }

@@ -5,7 +5,6 @@ ghost use Rattle.state.specs.States.{Ready, Steps};
 use crate::State;
 use crate::Step;
 use controls::batch_control;
-use entries::individual::Entry;
 use field::place::record_at;
 use paper::record::Kind;
 use verdicts::verdict::Verdict;
@@ -18,13 +17,7 @@ pub fn step(file: &[u8], place: usize, state: State) -> Step
     let header = record_at(file, state.header);
     let batch = state.batch;
     match batch_control::judge(header, batch, rec) {
-        Verdict::Right => Step::Next(state.after(
-            Kind::BatchControl,
-            place,
-            Entry::NONE,
-            false,
-            state.fresh,
-        )),
+        Verdict::Right => Step::Next(state.past(Kind::BatchControl, place)),
         Verdict::Wrong(fault) => Step::Stop(fault),
     }
 }

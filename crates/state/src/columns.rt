@@ -1,13 +1,9 @@
 // Each figure of the state after a record of a kind. Of an individual record its numbers, and whether it is flagged, are handed in.
 ghost use mathlib.Core.Path.{_≡_};
-ghost use mathlib.Core.Bool.{true, cond};
-ghost use mathlib.Core.List.{List};
-ghost use Prim.Native.Nat.{ℕ, _+_, _^_, _<_};
-ghost use Rattle.paper.specs.Kinds.{opensBatch, isIndividual};
-ghost use Rattle.paper.specs.Records.{flaggedIn};
-ghost use Rattle.paper.specs.Reading.{batchNext, closedNext, beforeNext};
+ghost use Prim.Native.Nat.{_^_, _<_};
+ghost use Rattle.paper.specs.Reading.{closedNext};
 ghost use Rattle.controls.specs.Bounds.{Below};
-ghost use Rattle.state.specs.States.{headerPlace, individualPlace, higher, Entered};
+ghost use Rattle.state.specs.States.{headerPlace, individualPlace, higher, beforeBy, counterBy, batchesBy, batchBy};
 use crate::flag;
 use controls::tally;
 use entries::individual::Entry;
@@ -17,7 +13,7 @@ use paper::record::Kind;
 use paper::record::Tally;
 
 pub fn before(kind: Kind, flagged: bool) -> Before
-    ensures { λ r. ⌜ ((rec : List ℕ) → (isIndividual kind ≡ true → flagged ≡ flaggedIn rec) → r ≡ beforeNext kind rec) ⌝ }
+    ensures { λ r. ⌜ r ≡ beforeBy kind flagged ⌝ }
 {
     match kind {
         Kind::FileHeader => Before::Between,
@@ -49,7 +45,7 @@ pub fn individual(kind: Kind, individual: usize, place: usize) -> usize
 }
 
 pub fn counter(kind: Kind, counter: u64, number: u64) -> u64
-    ensures { λ r. ⌜ r ≡ cond (opensBatch kind) 0 (cond (isIndividual kind) number counter) ⌝ }
+    ensures { λ r. ⌜ r ≡ counterBy kind counter number ⌝ }
 {
     if kind::opens_batch(kind) {
         return 0;
@@ -71,7 +67,7 @@ pub fn highest(kind: Kind, highest: u64, counter: u64) -> u64
 
 pub fn batches(kind: Kind, batches: u64) -> u64
     requires { ⌜ batches < 10 ^ 18 ⌝ }
-    ensures { λ r. ⌜ r ≡ cond (opensBatch kind) (batches + 1) batches ⌝ }
+    ensures { λ r. ⌜ r ≡ batchesBy kind batches ⌝ }
 {
     if kind::opens_batch(kind) {
         return batches + 1;
@@ -82,7 +78,7 @@ pub fn batches(kind: Kind, batches: u64) -> u64
 pub fn batch(kind: Kind, batch: Tally, entry: Entry) -> Tally
     requires { ⌜ (entry .destination < 10 ^ 8) × (entry .amount < 10 ^ 10) ⌝ }
     requires { ⌜ Below (10 ^ 18) batch ⌝ }
-    ensures { λ r. ⌜ ((rec : List ℕ) → (isIndividual kind ≡ true → Entered rec entry) → r ≡ batchNext kind batch rec) ⌝ }
+    ensures { λ r. ⌜ r ≡ batchBy kind batch entry ⌝ }
 {
     if kind::opens_batch(kind) {
         return tally::NONE;

@@ -5,7 +5,6 @@ ghost use Rattle.state.specs.States.{Ready, Steps};
 use crate::State;
 use crate::Step;
 use controls::file_control;
-use entries::individual::Entry;
 use field::place::record_at;
 use paper::record::Kind;
 use verdicts::verdict::Verdict;
@@ -18,13 +17,7 @@ pub fn step(file: &[u8], place: usize, state: State) -> Step
     let all = place as u64 + 1;
     let closed = state.closed;
     match file_control::judge(all, state.batches, closed, rec) {
-        Verdict::Right => Step::Next(state.after(
-            Kind::FileControl,
-            place,
-            Entry::NONE,
-            false,
-            state.fresh,
-        )),
+        Verdict::Right => Step::Next(state.past(Kind::FileControl, place)),
         Verdict::Wrong(fault) => Step::Stop(fault),
     }
 }

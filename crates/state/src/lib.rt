@@ -1,9 +1,8 @@
 // What the next record finds before it, and the state after a record of each kind.
 ghost use mathlib.Core.Path.{_≡_};
-ghost use mathlib.Core.List.{List};
-ghost use Prim.Native.Nat.{ℕ, _^_, _<_};
-ghost use Rattle.paper.specs.Reading.{flag, recordAt};
-ghost use Rattle.state.specs.States.{RoomToCount, Ready, EntryTold, Knows, Advances};
+ghost use Prim.Native.Nat.{_^_, _<_};
+ghost use Rattle.paper.specs.Reading.{flag};
+ghost use Rattle.state.specs.States.{RoomToCount, afterBy, pastBy};
 use controls::tally;
 use entries::individual::Entry;
 use field::place::Record;
@@ -15,11 +14,11 @@ use paper::record::Tally;
 pub mod additional;
 pub mod batch_control;
 pub mod batch_header;
-pub mod columns;
+mod columns;
 pub mod file_control;
 pub mod file_header;
 pub mod individual;
-pub mod numbers;
+mod numbers;
 
 // Records are held by their places in the file.
 pub struct State {
@@ -28,11 +27,11 @@ pub struct State {
     pub header: usize,
     // the last individual record
     pub individual: usize,
-    // the number in 88-94 of that record, 0 as long as its batch has none
+    // 88-94 of the last individual record of this batch, 0 as long as it has none
     pub counter: u64,
     // the largest of the batches before, 0 before the first
     pub highest: u64,
-    // up to this place numbers are known to be new; 0 as long as nobody looked
+    // where somebody looked: the first record from there on whose number stands before it, or how many there are; else 0
     pub fresh: usize,
     pub batches: u64,
     // what the batch's control counts
@@ -64,10 +63,10 @@ impl State {
     };
 
     // After a record of a kind without fault; numbers are known to be new up to `fresh`.
-    pub fn after(self, kind: Kind, place: usize, entry: Entry, flagged: bool, fresh: usize) -> State
+    fn after(self, kind: Kind, place: usize, entry: Entry, flagged: bool, fresh: usize) -> State
         requires { ⌜ (place < 10000) × RoomToCount place self ⌝ }
         requires { ⌜ (entry .destination < 10 ^ 8) × (entry .amount < 10 ^ 10) ⌝ }
-        ensures { λ r. ⌜ ((file : List ℕ) → Ready kind file place self → EntryTold kind (self .counter) (recordAt file place) entry flagged → Knows kind file place self fresh → Advances kind file place self r) ⌝ }
+        ensures { λ r. ⌜ r ≡ afterBy kind place self entry flagged fresh ⌝ }
     {
         let batch = self.batch;
         let closed = self.closed;
@@ -82,6 +81,14 @@ impl State {
             batch: columns::batch(kind, batch, entry),
             closed: columns::closed(kind, closed, batch),
         }
+    }
+
+    // After one that is no individual record.
+    fn past(self, kind: Kind, place: usize) -> State
+        requires { ⌜ (place < 10000) × RoomToCount place self ⌝ }
+        ensures { λ r. ⌜ r ≡ pastBy kind place self ⌝ }
+    {
+        self.after(kind, place, Entry::NONE, false, self.fresh)
     }
 }
 

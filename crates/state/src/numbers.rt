@@ -8,7 +8,7 @@ ghost use Rattle.paper.specs.Fields.{among};
 ghost use Rattle.paper.specs.Kinds.{isIndividual, kindOf};
 ghost use Rattle.paper.specs.Records.{numberIn};
 ghost use Rattle.paper.specs.Reading.{recordAt};
-ghost use Rattle.counters.specs.Numbers.{numbersBefore, FreshTo};
+ghost use Rattle.repeats.specs.Numbers.{numbersBefore, FreshTo};
 ghost use Rattle.state.specs.States.{NumberSays};
 
 // It is, and so are those up to a place; or it stood before.
@@ -28,7 +28,7 @@ pub fn judge(file: &[u8], place: usize, number: u64, highest: u64, known: usize)
     if number > highest {
         return Number::New(known);
     }
-    let fresh = counters::fresh(file, place, known);
+    let fresh = repeats::fresh(file, place, known);
     if fresh == place {
         return Number::Repeated;
     }

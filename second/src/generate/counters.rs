@@ -15,11 +15,20 @@ use std::collections::BTreeSet;
 pub use faults::put_counter_fault;
 use faults::{break_counters, repeated_anywhere};
 
-/// One file in so many has some hundreds of records, and one in so many up to 10,000: the rest is small, so that all goes quickly.
-const HUNDREDS: usize = 180;
-const THOUSANDS: usize = 8_000;
+/// One file in so many is larger than the rest, which is small, so that all goes quickly.
+const LARGER: usize = 120;
 
-const FULL: usize = 10_000;
+/// Records of those, the fewest and the most: each up to three times the one before, the larger the rarer.
+const SIZES: [(usize, usize); 8] = [
+    (40, 120),
+    (40, 120),
+    (120, 360),
+    (120, 360),
+    (360, 1_080),
+    (360, 1_080),
+    (1_080, 3_240),
+    (3_240, 10_000),
+];
 
 /// What the files of this family are called.
 pub const FAMILIES: [&str; 5] = [
@@ -56,13 +65,9 @@ pub fn counter_file(random: &mut Random) -> Case {
 }
 
 fn many_batches(random: &mut Random) -> Draft {
-    if random.once_in(HUNDREDS) {
-        let records = random.between(100, 600);
-        return of_records(random, records);
-    }
-    if random.once_in(THOUSANDS) {
-        let any = random.between(1_000, FULL);
-        let records = *random.pick(&[FULL, any]);
+    if random.once_in(LARGER) {
+        let (fewest, most) = *random.pick(&SIZES);
+        let records = random.between(fewest, most);
         return of_records(random, records);
     }
     let batches = *random.pick(&[1, 2, 2, 2, 2, 3, 3, 5]);

@@ -7,12 +7,13 @@ use Rattle.paper.specs.Fields.{every, good}
 use Rattle.paper.specs.Kinds.{kindOf, allowed}
 use Rattle.paper.specs.Reading.{recordAt}
 use Rattle.paper.specs.declared.record.Kind.the-variants.{Individual, Additional}
+use Rattle.paper.proofs.Tests.{not-both}
 use Rattle.paper.proofs.Exactly.{also-r}
 use Rattle.state.specs.States.{stepSays, Kept}
 use Rattle.verdicts.specs.Verdicts.{checkOf, under}
 use Rattle.field.proofs.Arms.{in-kinds}
 use Rattle.reading.specs.Taken.{isEntry}
-use Rattle.reading.proofs.Records.{ready, first, stands, falls, true-not-false}
+use Rattle.reading.proofs.Records.{ready, first, stands, falls}
 use Rattle.reading.proofs.entry.Statement.{statement}
 use Rattle.reading.proofs.entry.Tie as tie
 
@@ -99,7 +100,7 @@ returns-5 : tie.Need-returns-5
 returns-5 c =
     let start : tie.Start = search in
     let none : false ≡ isEntry (start .args .kind) = in-kinds false isEntry (0 ∷ 1 ∷ 4 ∷ 5 ∷ 6 ∷ []) (refl, (refl, (refl, (refl, (refl, tt))))) (start .args .kind) (c .match .keys3) in
-    absurd (true-not-false (sym (none ∙ start .pre .1 .1 .1)))
+    absurd (not-both (none ∙ start .pre .1 .1 .1) refl)
 
 pub entry-spec : {M : Type 1} → statement M
 entry-spec =

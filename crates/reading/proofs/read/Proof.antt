@@ -9,6 +9,7 @@ use lib.ListN.{length, drop}
 use Rattle.paper.specs.declared.record.Before.the-variants.{Nothing}
 use Rattle.paper.specs.Records.{ReadingRules}
 use Rattle.paper.specs.Reading.{start, lengthGood, finish, readingFrom, parts}
+use Rattle.paper.proofs.Tests.{not-both}
 use Rattle.state.proofs.Numbering.{none-known}
 use Rattle.state.specs.declared.State.{State}
 use Rattle.state.specs.States.{meant, Preceded}
@@ -16,7 +17,6 @@ use Rattle.verdicts.specs.Verdicts.{under}
 use Rattle.controls.proofs.Bounds.{below-zeros}
 use Rattle.reading.specs.Said.{readingSays, Carries}
 use Rattle.reading.specs.Taken.{Underway, Framed, onFrom, Reaches, Runs, Further}
-use Rattle.reading.proofs.Records.{true-not-false}
 use Rattle.reading.proofs.Walk.{done, at-start, short, too-long, read-through}
 use Rattle.reading.proofs.read.Statement.{statement}
 use Rattle.reading.proofs.read.Tie as tie
@@ -118,7 +118,7 @@ loop-again c =
     record {
       fit = p .fit;
       underway = record { all = refl; within = r .within; short = p .underway .short; standing = r .standing; clean = p .underway .clean };
-      framed = λ h i. absurd (true-not-false (sym i ∙ r .framed h));
+      framed = λ h i. absurd (not-both i (r .framed h));
       left = p .left ∙ r .left;
     }
 

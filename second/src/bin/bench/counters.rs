@@ -1,14 +1,26 @@
 //! Counters that ascend through the file, and counters that fall from batch to batch, in files that are the same otherwise.
 
-use crate::measuring::{Times, FILES, RECORDS, WARM_UP};
-use crate::readers::{Asked, READERS};
+use crate::measuring::{Times, FILES, RECORDS, SPEED_ROUNDS, WARM_UP};
+use crate::readers::{Asked, PROVED, READERS};
 use second::generate::good::{smallest_batches, Maker, MODEST};
 use second::generate::numbering::{put_counter, HIGHEST};
 use second::generate::random::Random;
 use second::generate::Draft;
+use second::Refusal;
 
-/// Records of a file, and rounds that take about as long for each.
-const SIZES: [(usize, usize); 4] = [(10, 2_000), (100, 1_000), (1_000, 300), (RECORDS, 60)];
+/// Records of a file, and rounds that take about as long for each. Besides round numbers, those at which the proved reader takes larger
+/// room to look through a file, and does so for the fewest records.
+const SIZES: [(usize, usize); 9] = [
+    (10, 2_000),
+    (41, 1_500),
+    (100, 1_000),
+    (121, 1_000),
+    (361, 600),
+    (1_000, 300),
+    (1_081, 300),
+    (3_241, 150),
+    (RECORDS, 60),
+];
 
 /// A batch has some so many records, where the file has enough.
 const BATCH: usize = 25;
@@ -37,8 +49,13 @@ struct Shape {
     beside: usize,
 }
 
-/// The places of those that ascend.
+/// What was asked for: a file whose counters fall takes at most so many times one whose counters ascend.
+const MOST: f64 = 1.6;
+
+/// Shapes by their places.
 const ASCENDING: usize = 0;
+const TWO_MACHINES: usize = 1;
+const FALLING_SINGLE: usize = 5;
 const ASCENDING_SINGLE: usize = 6;
 
 const SHAPES: [Shape; 7] = [
@@ -99,6 +116,36 @@ pub fn run() {
     }
 }
 
+/// The proved reading of full files that fall, beside those that ascend; whether it is fast enough.
+pub fn is_fast() -> bool {
+    let mut times = Times::<2>::new();
+    for number in 0..FILES {
+        let shapes = [&SHAPES[ASCENDING], &SHAPES[TWO_MACHINES]];
+        let files = shapes.map(|shape| asked(shape, RECORDS, number));
+        times.in_turn(WARM_UP, SPEED_ROUNDS, |turn| files[turn].read_by(PROVED));
+    }
+    let [ascending, falling] = times.medians();
+    let ratio = falling / ascending;
+    println!("speed: falling/ascending {ratio:.2}");
+    if ratio > MOST {
+        eprintln!("too slow: falling/ascending is above {MOST:.1}");
+    }
+    ratio <= MOST
+}
+
+/// A full file of one individual record to a batch, falling and far apart.
+pub fn falling_singles(random: &mut Random) -> Asked {
+    Asked::good(&numbered(&SHAPES[FALLING_SINGLE], random, RECORDS))
+}
+
+/// A full file that falls in its second batch, where all of it is looked at, and is refused at the third.
+pub fn refused_early(random: &mut Random) -> Asked {
+    let mut draft = numbered(&SHAPES[TWO_MACHINES], random, RECORDS);
+    let place = draft.places(|record| record[0] == b'5')[2];
+    draft.records[place][1] = b' ';
+    Asked::of(&draft, Err(Refusal { number: 17, place }))
+}
+
 fn is_first(turn: &Turn) -> bool {
     turn.batch.is_multiple_of(2)
 }
@@ -122,7 +169,15 @@ fn single_records(random: &mut Random, records: usize) -> Draft {
 
 /// From the same numbers drawn, so that shapes share their contents.
 fn asked(shape: &Shape, records: usize, number: u64) -> Asked {
-    let mut draft = (shape.make)(&mut Random::new(records as u64, number), records);
+    Asked::good(&numbered(
+        shape,
+        &mut Random::new(records as u64, number),
+        records,
+    ))
+}
+
+fn numbered(shape: &Shape, random: &mut Random, records: usize) -> Draft {
+    let mut draft = (shape.make)(random, records);
     let places = draft.places(|record| matches!(record[0], b'5' | b'6'));
     let individuals = places
         .iter()
@@ -147,7 +202,7 @@ fn asked(shape: &Shape, records: usize, number: u64) -> Asked {
         turn.of_machine = taken[turn.batch % 2];
         put_counter(&mut draft, place, (shape.counter)(&turn));
     }
-    Asked::good(&draft)
+    draft
 }
 
 fn measure(records: usize, rounds: usize) -> [f64; JOBS] {

@@ -9,6 +9,9 @@ pub const RECORDS: usize = 10_000;
 pub const WARM_UP: usize = 20;
 pub const ROUNDS: usize = 200;
 
+/// Enough for medians to settle, and few enough for the gate.
+pub const SPEED_ROUNDS: usize = 60;
+
 /// Microseconds of each of so many jobs.
 pub struct Times<const JOBS: usize>([Vec<f64>; JOBS]);
 

@@ -7,6 +7,9 @@ use std::hint::black_box;
 
 type Reader = fn(&Opening, &[u8]) -> Result<usize, Refusal>;
 
+/// Which of them is the library.
+pub const PROVED: usize = 0;
+
 pub const READERS: [(&str, Reader); 4] = [
     ("proved", proved::read),
     ("tuned", tuned_read),

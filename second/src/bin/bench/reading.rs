@@ -1,6 +1,8 @@
 //! All four readings of the same good files.
 
-use crate::measuring::{nanoseconds_a_record, Times, FILES, RECORDS, ROUNDS, WARM_UP};
+use crate::measuring::{
+    nanoseconds_a_record, Times, FILES, RECORDS, ROUNDS, SPEED_ROUNDS, WARM_UP,
+};
 use crate::readers::{Asked, READERS};
 use second::generate::good::file_of;
 use second::generate::random::Random;
@@ -8,9 +10,6 @@ use std::hint::black_box;
 
 /// Half of what was asked for, and far above what is measured today, so that a noisy machine does not fail it.
 const MOST: f64 = 1.0;
-
-/// Enough for medians to settle, and few enough for the gate.
-const SPEED_ROUNDS: usize = 60;
 
 struct Medians {
     proved: f64,

@@ -1,5 +1,6 @@
 //! Files of 10,000 records that are made to be slow, beside good ones of as many records.
 
+use crate::counters::{falling_singles, refused_early};
 use crate::measuring::{Times, FILES, RECORDS, WARM_UP};
 use crate::readers::{Asked, READERS};
 use second::generate::good::{file_of, smallest_batches};
@@ -23,6 +24,11 @@ pub fn run() {
     measure("a bad character at the very end", bad_character);
     measure("the file control wrong in its last field", wrong_control);
     measure("one individual record to a batch", single_records);
+    measure("the same with counters that fall", falling_singles);
+    measure(
+        "counters that fall, refused in the third batch",
+        refused_early,
+    );
 }
 
 /// The last position of a file control is free, so that only the character is wrong.

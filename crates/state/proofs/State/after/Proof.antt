@@ -1,11 +1,12 @@
+use mathlib.Core.Path.{refl}
 use borrow.Author.Needs.{needs}
-use mathlib.Core.Path.{_∙_}
-use Rattle.state.proofs.Steps.{advances, counter-told}
+use Rattle.state.specs.States.{afterBy}
 use Rattle.state.proofs.State.after.Statement.{statement}
 use Rattle.state.proofs.State.after.Tie as tie
 
 returns : tie.Need-returns
-returns c file ready told knows =
+unfolding afterBy
+returns c =
     let before : tie.After-before2 = search in
     let header : tie.After-header = search in
     let individual : tie.After-individual = search in
@@ -13,8 +14,7 @@ returns c file ready told knows =
     let highest : tie.After-highest = search in
     let batches : tie.After-batches = search in
     let batch : tie.After-batch2 = search in
-    advances ready (before .before2 .ensures _ (told .flag)) (header .header .ensures) (individual .individual .ensures) (told .rises)
-    (counter .counter .ensures ∙ counter-told _ _ _ _ _ told) (highest .highest .ensures) knows (batches .batches .ensures) (batch .batch2 .ensures _ (told .numbers)) (c .closed2 .ensures)
+    rw (before .before2 .ensures, header .header .ensures, individual .individual .ensures, counter .counter .ensures, highest .highest .ensures, batches .batches .ensures, batch .batch2 .ensures, c .closed2 .ensures) refl
 
 pub after-spec : {M : Type 1} → statement M
 after-spec =

@@ -1,28 +1,25 @@
 use mathlib.Core.Path.{sym, refl, _∙_}
 use borrow.Author.Needs.{needs}
-use Rattle.state.proofs.Entering.{entered}
 use Rattle.state.proofs.columns.batch.Statement.{statement}
 use Rattle.state.proofs.columns.batch.Tie as tie
 
 returns : tie.Need-returns
-returns c rec told =
+returns c =
     let asked : tie.After-opens-batch = search in
     rw (sym (asked .opens-batch .ensures) ∙ c .if1 .taken) refl
 
 returns-2 : tie.Need-returns-2
-returns-2 c rec told =
+returns-2 c =
     let opens : tie.After-opens-batch = search in
     let stays : tie.Else1 = search in
     let asked : tie.After-is-individual = search in
     let is : tie.Then2 = search in
     let side : tie.After-collects = search in
-    let start : tie.Start = search in
-    let enters = sym (asked .is-individual .ensures) ∙ is .if2 .taken in
-    rw (sym (opens .opens-batch .ensures) ∙ stays .if1 .left, enters)
-    (rw (side .collects .ensures) at (c .with-entry .ensures) ∙ entered rec _ (told enters .0) (told enters .1) (start .args .batch))
+    rw (sym (opens .opens-batch .ensures) ∙ stays .if1 .left, sym (asked .is-individual .ensures) ∙ is .if2 .taken)
+    (rw (side .collects .ensures) at (c .with-entry .ensures))
 
 returns-3 : tie.Need-returns-3
-returns-3 c rec told =
+returns-3 c =
     let opens : tie.After-opens-batch = search in
     let stays : tie.Else1 = search in
     let asked : tie.After-is-individual = search in
@@ -32,7 +29,7 @@ returns-3 c rec told =
     rw (sym (opens .opens-batch .ensures) ∙ stays .if1 .left, sym (asked .is-individual .ensures) ∙ other .if2 .left, sym (added .is-additional .ensures) ∙ is .if3 .taken) (c .with-additional .ensures)
 
 returns-4 : tie.Need-returns-4
-returns-4 c rec told =
+returns-4 c =
     let opens : tie.After-opens-batch = search in
     let stays : tie.Else1 = search in
     let asked : tie.After-is-individual = search in

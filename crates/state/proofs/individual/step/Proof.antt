@@ -10,11 +10,11 @@ use Rattle.paper.specs.Reading.{fields, recordAt}
 use Rattle.verdicts.specs.Verdicts.{under}
 use Rattle.entries.specs.declared.individual.Entry.{Entry}
 use Rattle.entries.specs.Judging.{judgedSays, HandsOn, entryOf}
-use Rattle.paper.proofs.Counters.{individual-after}
+use Rattle.paper.proofs.Counters.{exceeds}
 use Rattle.entries.proofs.Chains.{code-known}
 use Rattle.state.specs.States.{meant, NumberSays}
 use Rattle.state.proofs.Numbering.{below-own}
-use Rattle.state.proofs.Steps.{goes-on, stops-at, is-new, is-old}
+use Rattle.state.proofs.Steps.{goes-on, stops-at, is-new, is-old, after-advances}
 use Rattle.state.proofs.Entering.{entry-small}
 use Rattle.state.proofs.individual.step.Statement.{statement}
 use Rattle.state.proofs.individual.step.Tie as tie
@@ -47,7 +47,7 @@ number-so c = let rec : tie.After-record-at = search in ap (λ (e : Entry). e .c
 
 -- above the last of its batch
 rises-so : (c : tie.After-entry) → let start : tie.Start = search in start .args .state .counter < numberIn (recordAt (start .args .file .now) (start .args .place))
-rises-so c = let start : tie.Start = search in individual-after _ _ (start .args .state .counter) 0 _ (omega arith) (good-so c) .1
+rises-so c = exceeds _ _ _ _ (good-so c)
 
 judge-requires-2 : tie.Need-judge-requires-2
 judge-requires-2 c κs =
@@ -77,11 +77,11 @@ returns c =
     let start : tie.Start = search in
     let said = rw (new .fresh .given .1) at (number .judge2 .ensures) in
     goes-on _ (start .pre) (is-new (start .pre) _ (good-so good) (said .0))
-    (c .after .ensures _ (start .pre) (record {
+    (rw (c .after .ensures) (after-advances (start .pre) _ (record {
       numbers = λ _. rw (sym (rec .record-at .ensures .0)) (handed good, known-code good);
       rises = λ _. rises-so good;
       flag = λ _. rw (sym (rec .record-at .ensures .0)) (at-flagged .flagged .ensures);
-    }) (rw (number-so good) at (said .1)))
+    }) (rw (number-so good) at (said .1))))
 
 -- one that stood before
 returns-2 : tie.Need-returns-2

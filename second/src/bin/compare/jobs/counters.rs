@@ -52,6 +52,13 @@ pub fn fall(file: &[u8]) -> bool {
     !counters.is_sorted()
 }
 
+/// Whether there are several batches, and counters that do not ascend through all of them.
+pub fn fall_or_repeat(file: &[u8]) -> bool {
+    let individuals = individuals(file);
+    let several = individuals.last().is_some_and(|last| last.batch > 1);
+    several && !individuals.is_sorted_by(|one, next| one.counter() < next.counter())
+}
+
 /// Whether counters fall, and no two of several lie near each other.
 pub fn fall_far_apart(file: &[u8]) -> bool {
     let individuals = individuals(file);

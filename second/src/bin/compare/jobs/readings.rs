@@ -1,6 +1,6 @@
 //! Both readings on generated files, and the tuned ones beside them.
 
-use super::counters::Refused;
+use super::counters::{fall_or_repeat, Refused};
 use super::job::{Job, Seen};
 use super::showing::show_and_keep;
 use second::day::Opening;
@@ -41,6 +41,9 @@ impl Job for Case {
         let named = match name {
             "files" => true,
             "of the counters' family" => FAMILIES.contains(&seen.case.family),
+            "of several batches with falling or repeated counters" => {
+                fall_or_repeat(&seen.case.file)
+            }
             _ => is_named(seen.answer, name),
         };
         u64::from(named)
