@@ -6,3 +6,4 @@ pub mod Value
 pub mod Words
 pub mod Halves
 pub mod Eights
+pub mod Shared

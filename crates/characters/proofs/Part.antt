@@ -38,3 +38,8 @@ parted r first mid last h k l =
     let rest : last + 1 - (mid + 1) ≡ m = omega arith in
     let at : first - 1 + n ≡ mid + 1 - 1 = omega arith in
     rw (whole, rest, take-add n m (drop (first - 1) r), drop-drop n (first - 1) r, at)
+
+-- before one of its positions
+pub parted-before : (r : List ℕ) (first mid next last : ℕ) → 1 ≤ first → first ≤ next → mid ≤ last → mid + 1 ≡ next
+    → field r first last ≡ field r first mid ++ field r next last
+parted-before r first mid next last h k l e = parted r first mid last h (omega arith) l ∙ ap (λ (n : ℕ). field r first mid ++ field r n last) e

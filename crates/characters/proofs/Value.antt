@@ -1,12 +1,12 @@
 -- The value of digits, one digit further, for any length.
 use Prim.Native.Nat.{ℕ, _+_, _-_, _*_, _^_, _≤_, _<_, _%_}
 use mathlib.Core.List.{List, [], _∷_, _++_}
-use mathlib.Core.Bool.{Bool, true, false, _&&_, and-false}
+use mathlib.Core.Bool.{Bool, true, false, _&&_, and-false, cond}
 use mathlib.Core.Path.{_≡_, refl, sym, ap, _∙_}
 use native.Mathlib.Numerals.{add-one}
 use native.Mathlib.Nat.{pow-zero, pow-suc, pow-le-pow-right, pow-succ', zero-add, add-mul, mul-assoc}
 use native.Mathlib.Omega.{arith}
-use lib.Dec.{T, eqb, lit<}
+use lib.Dec.{T, eqb, ltb, lit<}
 use lib.ListN.{length, drop, getD, drop-of-length-le}
 use lib.Seq.{drop-cons}
 use Rattle.paper.specs.Fields.{digit, digits, value, valueFrom, number, spells}
@@ -50,6 +50,15 @@ module _ (f : List ℕ) where
   pub no-number : digits f ≡ false → 0 ≡ number f
   unfolding number
   no-number e = rw e
+
+  -- a number above 0 is one of digits
+  pub some-number : (digits f && ltb 0 (number f)) ≡ ltb 0 (number f)
+  unfolding number
+  some-number = go (digits f) refl
+    where
+      go : (d : Bool) → digits f ≡ d → (d && ltb 0 (cond d (value f) 0)) ≡ ltb 0 (cond d (value f) 0)
+      go true e = refl
+      go false e = refl
 
   -- the value counts where all are digits
   pub spelled : (d : Bool) (n m : ℕ) → d ≡ digits f → (T (digits f) → n ≡ value f) → (d && eqb n m) ≡ spells f m

@@ -85,6 +85,15 @@ pub fn digits(rec: &[u8], first: usize, last: usize) -> bool
     all_digits(word(rec, first, last))
 }
 
+// A field of eight to sixteen positions, in two words that may share some.
+pub fn wide_digits(rec: &[u8], first: usize, last: usize) -> bool
+    requires { ⌜ HasField (now rec) first last ⌝ }
+    requires { ⌜ (first + 7 ≤ last) × (last ≤ first + 15) ⌝ }
+    ensures { λ r. ⌜ r ≡ digits (field (now (rec .entry)) first last) ⌝ }
+{
+    digits(rec, first, first + 7) & digits(rec, last - 7, last)
+}
+
 // Whether two fields of eight, of one record or of two, are the same.
 pub fn same(rec: &[u8], first: usize, last: usize, other: &[u8], from: usize, to: usize) -> bool
     requires { ⌜ HasField (now rec) first last ⌝ }

@@ -16,9 +16,10 @@ use handing::Handed;
 use handing::modes;
 use handing::modes::Mode;
 use intake::held;
+use intake::long;
+use intake::long::Took;
 use intake::roster::Roll;
-use intake::trays;
-use intake::trays::Took;
+use looking::Form;
 use paper::answer::Answer;
 use paper::answer::Output;
 use tray::pieces::Known;
@@ -196,8 +197,8 @@ fn build_from(session: Session, header: &[u8]) -> Ended {
 
 // From the tray of that name.
 fn build_of(session: Session, header: &[u8], path: &[u8]) -> Ended {
-    let mut input = held::input();
-    let took = trays::take(path, header, &mut input);
+    let mut input = held::long();
+    let took = long::take(Form::Tray, path, header, &mut input);
     let Took::Whole(n, _) = took else {
         return say_long(took);
     };

@@ -1,23 +1,19 @@
 -- A tray of more than 10,000 records: the answer is 207's, else 201, and the buffer stays. Neither the file, nor the reading, nor the buffer is looked
 -- at, and 207's first bad record is found piece by piece: so a program that cannot hold such a tray may still answer it exactly as the desk does.
-use Prim.Native.Nat.{ℕ, _/_, _%_, _<_}
+use Prim.Native.Nat.{ℕ, _%_, _<_}
 use native.Mathlib.Omega.{arith}
 use mathlib.Core.Bool.{_&&_}
 use mathlib.Core.List.{List}
-use mathlib.Core.Path.{_≡_, refl, sym, ap, _∙_}
+use mathlib.Core.Path.{_≡_, refl, ap, _∙_}
 use lib.Dec.{eqb}
 use lib.ListN.{length}
-use Rattle.paper.specs.declared.answer.Answer.{Answer}
 use Rattle.paper.specs.declared.answer.Output.{Output}
 use Rattle.paper.specs.declared.answer.Output.the-variants.{Accepted, Refused}
-use Rattle.paper.specs.Answers.{Said, accepted, refused, said, andThen, require}
+use Rattle.paper.specs.Answers.{Said, accepted, refused, andThen, require}
 use Rattle.paper.specs.Trays.{trayRecords, trayFault}
 use Rattle.paper.specs.Buffers.{Outcome, told, trayAnswer, buildable, building}
 use Rattle.paper.proofs.Refusals.{and-then-assoc}
 use Rattle.paper.proofs.Lent.{building-stays}
-use Rattle.tray.specs.declared.pieces.Pieces.{Pieces}
-use Rattle.tray.specs.declared.pieces.Known.the-variants.{Finite, Endless}
-use Rattle.tray.specs.Seen.{mostSeen, Seen, Tells}
 use Rattle.tray.proofs.Places.{sound-of}
 use Rattle.building.proofs.Sizes.{build-length}
 use Rattle.desk.specs.declared.Session.{Session}
@@ -39,27 +35,20 @@ module _ (s : Session) (header tray before : List ℕ) (long : 960000 < length t
           let t = sound-of header tray e in
           building-stays (rulesOf s) header tray before (too-long header tray before e (omega (arith, build-length header tray (t .0) (t .1 .whole), t .1 .whole)))
 
-  in-order : building (rulesOf s) header tray before .answer
-      ≡ andThen (require (eqb (length header) 94 && eqb (length tray % 96) 0) 207 0) (andThen (trayFault 0 (trayRecords tray)) (refused 201 0))
-  unfolding trayAnswer
-  in-order =
-      ap (λ (o : Outcome). o .answer) outcome
-      ∙ and-then-assoc (require (eqb (length header) 94 && eqb (length tray % 96) 0) 207 0) (trayFault 0 (trayRecords tray)) (refused 201 0)
-
-  -- told by what is known after its pieces, the answer is that of building from the whole, whatever the session and the buffer
-  -- (not so with a look that takes a tray without end for one that has ended)
-  pub long-seen : (p : Pieces) → Seen p tray → (a : Answer) → Tells p header (Finite a) → said a ≡ building (rulesOf s) header tray before .answer
-  long-seen p seen a e =
-      let w = seen .whole (e .0) in
-      e .1
-      ∙ rw (w .faults, w .left) (sym in-order)
+  -- 207's answer, else 201, whatever the session and the buffer: so it is that told by what is known after its pieces (`ByPieces.seen-told` of tray)
+  pub long-built : building (rulesOf s) header tray before .answer ≡ andThen (trayAnswer header tray) (refused 201 0)
+  long-built = ap (λ (o : Outcome). o .answer) outcome
 
   module _ (r : Output) (after : List ℕ) (h : Builds s header tray before r after) where
     -- the lengths at 0, then the first bad record, else 201
     -- (not so with 201 for a long tray whatever is in it, or with 206 for want of room)
     pub long-answer : told r after .answer
         ≡ andThen (require (eqb (length header) 94 && eqb (length tray % 96) 0) 207 0) (andThen (trayFault 0 (trayRecords tray)) (refused 201 0))
-    long-answer = ap (λ (o : Outcome). o .answer) h ∙ in-order
+    unfolding trayAnswer
+    long-answer =
+        ap (λ (o : Outcome). o .answer) h
+        ∙ long-built
+        ∙ and-then-assoc (require (eqb (length header) 94 && eqb (length tray % 96) 0) 207 0) (trayFault 0 (trayRecords tray)) (refused 201 0)
 
     -- (not so with a desk that writes the records as they come, or one that blanks the buffer)
     pub long-stays : after ≡ before
@@ -68,7 +57,3 @@ module _ (s : Session) (header tray before : List ℕ) (long : 960000 < length t
         go : (x : Output) → told x after ≡ refusal (trayAnswer header tray) → after ≡ before
         go (Accepted n) e = ap (λ (o : Outcome). o .buffer) e
         go (Refused fault place) e = ap (λ (o : Outcome). o .buffer) e
-
--- a tray that is told to have no end has more than 2^60 records
-pub long-endless : (header tray : List ℕ) (p : Pieces) → Seen p tray → Tells p header Endless → mostSeen < length tray / 96
-long-endless header tray p seen e = seen .endless e

@@ -14,7 +14,7 @@ use Rattle.paper.specs.Fields.{field, digits, blank, is, same, number}
 use Rattle.paper.specs.Kinds.{codeOf, known}
 use Rattle.paper.specs.Records.{ReadingRules, accountGood, amountOf, flaggedIn, informationGood, flagGood, counterGood, addressed, destination, transfer, individual}
 use Rattle.paper.proofs.Exactly.{wrong-not-fine}
-use Rattle.characters.proofs.Value.{no-number}
+use Rattle.characters.proofs.Value.{some-number}
 use Rattle.entries.specs.Judging.{flagRules, closingRules}
 
 -- ---- whereto: digits, then the currency and who reads
@@ -45,15 +45,12 @@ module _ (rules : ReadingRules) (f : List ℕ) where
 
 -- an amount of nothing is one that is not ten digits, or zero
 no-amount : (r : List ℕ) → amountOf r ≡ 0 → (digits (field r 30 39) && ltb 0 (amountOf r)) ≡ false
-no-amount r h = rw (le-ltb 0 (amountOf r) (omega arith)) (and-false (digits (field r 30 39)))
+unfolding amountOf
+no-amount r h = some-number (field r 30 39) ∙ le-ltb 0 (amountOf r) (omega arith)
 
 some-amount : (r : List ℕ) → (amountOf r ≡ 0 → ⊥) → (digits (field r 30 39) && ltb 0 (amountOf r)) ≡ true
 unfolding amountOf
-some-amount r h = go (digits (field r 30 39)) refl
-  where
-    go : (d : Bool) → digits (field r 30 39) ≡ d → (digits (field r 30 39) && ltb 0 (amountOf r)) ≡ true
-    go true e = rw (e, lt-ltb 0 (amountOf r) (omega arith))
-    go false e = absurd (h (sym (no-number (field r 30 39) e)))
+some-amount r h = some-number (field r 30 39) ∙ lt-ltb 0 (amountOf r) (omega arith)
 
 module _ (rules : ReadingRules) (r : List ℕ) where
   pub code-wrong : known (codeOf r) ≡ false → wrong 17 ≡ transfer rules r

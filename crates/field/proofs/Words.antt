@@ -9,11 +9,11 @@ use lib.ListN.{length, take, drop}
 use lib.Seq.{drop-at}
 use Rattle.paper.specs.Fields.{field, digit, digits, value, number}
 use Rattle.paper.specs.Entities.{entityValue}
-use Rattle.paper.specs.Records.{amountOf}
 use Rattle.paper.proofs.Tests.{T-of, of-T}
 use Rattle.paper.proofs.Digits.{every-append}
 use Rattle.paper.proofs.Every.{every-take, every-drop}
-use Rattle.characters.proofs.Part.{parted, part-length}
+use Rattle.characters.specs.Part.{HasField}
+use Rattle.characters.proofs.Part.{parted, parted-before, part-length}
 use Rattle.characters.proofs.Value.{a-number, number-joined, first-none, last-none}
 use Rattle.characters.proofs.Eights.{eight-value, last-seven}
 use Rattle.field.specs.declared.individual.Sequence.the-variants.{Number, Other}
@@ -28,27 +28,35 @@ module _ (f : List ℕ) (h : digits f ≡ true) where
   pub field-told : length f ≡ 8 → value (take 4 f) * 10000 + value (drop 4 f) ≡ number f
   field-told l = sym (eight-value f l) ∙ a-number f h refl
 
+-- a field of ten: eight in one word, and two
+module _ (r : List ℕ) (first last : ℕ) (h : HasField r first last) (w : last ≡ first + 9) where
+  abbrev eight : List ℕ
+  eight = field r first (first + 7)
+
+  abbrev two : List ℕ
+  two = field r (first + 8) last
+
+  ten : field r first last ≡ eight ++ two
+  ten = parted-before r first (first + 7) (first + 8) last (h .0) (omega arith) (omega arith) (omega arith)
+
+  pub eight-long : length eight ≡ 8
+  eight-long = part-length r first (first + 7) (omega arith) ∙ omega arith
+
+  pub cents-told : digits eight ≡ true → digits two ≡ true
+      → (value (take 4 eight) * 10000 + value (drop 4 eight)) * 100 + number two ≡ number (field r first last)
+  cents-told k m =
+      let e = eight-value eight eight-long in
+      let l : length two ≡ 2 = part-length r (first + 8) last (omega arith) ∙ omega arith in
+      let n = a-number two m refl in
+      rw (ten, number-joined eight two k m, e, l, ← n)
+
+  pub cents-first : digits eight ≡ false → 0 ≡ number (field r first last)
+  cents-first k = rw ten (first-none eight two k)
+
+  pub cents-last : digits two ≡ false → 0 ≡ number (field r first last)
+  cents-last k = rw ten (last-none eight two k)
+
 module _ (r : List ℕ) (l : length r ≡ 94) where
-  ten : field r 30 39 ≡ field r 30 37 ++ field r 38 39
-  ten = parted r 30 37 39 (omega arith) (omega arith) (omega arith)
-
-  pub amount-told : digits (field r 30 37) ≡ true → digits (field r 38 39) ≡ true
-      → (value (take 4 (field r 30 37)) * 10000 + value (drop 4 (field r 30 37))) * 100 + number (field r 38 39) ≡ amountOf r
-  unfolding amountOf
-  amount-told h k =
-      let e = eight-value (field r 30 37) (part-length r 30 37 (omega arith)) in
-      let two : length (field r 38 39) ≡ 2 = part-length r 38 39 (omega arith) in
-      let n = a-number (field r 38 39) k refl in
-      rw (ten, number-joined (field r 30 37) (field r 38 39) h k, e, two, ← n)
-
-  pub amount-first : digits (field r 30 37) ≡ false → 0 ≡ amountOf r
-  unfolding amountOf
-  amount-first h = rw ten (first-none (field r 30 37) (field r 38 39) h)
-
-  pub amount-last : digits (field r 38 39) ≡ false → 0 ≡ amountOf r
-  unfolding amountOf
-  amount-last h = rw ten (last-none (field r 30 37) (field r 38 39) h)
-
   -- 80-94 in two ways
   after-sender : field r 80 94 ≡ field r 80 87 ++ field r 88 94
   after-sender = parted r 80 87 94 (omega arith) (omega arith) (omega arith)

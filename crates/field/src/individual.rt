@@ -1,8 +1,10 @@
 // What an individual record says beside its rules: how much, to whom, from whom, and whether more follows.
 ghost use mathlib.Core.Path.{_≡_};
-ghost use Prim.Native.Nat.{_<_, _^_};
+ghost use Prim.Native.Nat.{_+_, _^_, _<_};
 ghost use lib.ListN.{length};
+ghost use Rattle.paper.specs.Fields.{field, number};
 ghost use Rattle.paper.specs.Records.{amountOf, destinationIn, destinationField, senderIn, flaggedIn, numberIn};
+ghost use Rattle.characters.specs.Part.{HasField};
 ghost use Rattle.field.specs.Sequences.{sequenceOf};
 use crate::entity;
 use characters::number;
@@ -23,18 +25,27 @@ pub enum Sequence {
     Other,
 }
 
+// The number in a field of ten; nothing where they are not ten digits.
+pub fn cents(rec: &[u8], first: usize, last: usize) -> u64
+    requires { ⌜ HasField (now rec) first last ⌝ }
+    requires { ⌜ last ≡ first + 9 ⌝ }
+    ensures { λ r. ⌜ (r ≡ number (field (now (rec .entry)) first last)) × (r < 10 ^ 10) ⌝ }
+{
+    let Numeral::Digits(high, low) = word::halves(rec, first, first + 7) else {
+        return 0;
+    };
+    if !number::digits(rec, first + 8, last) {
+        return 0;
+    }
+    (high * FOUR_DIGITS + low) * TWO_DIGITS + number::number(rec, first + 8, last)
+}
+
 // In cents; nothing where it is not ten digits.
 pub fn amount(rec: &[u8]) -> u64
     requires { ⌜ length (now rec) ≡ 94 ⌝ }
     ensures { λ r. ⌜ (r ≡ amountOf (now (rec .entry))) × (r < 10 ^ 10) ⌝ }
 {
-    let Numeral::Digits(high, low) = word::halves(rec, 30, 37) else {
-        return 0;
-    };
-    if !number::digits(rec, 38, 39) {
-        return 0;
-    }
-    (high * FOUR_DIGITS + low) * TWO_DIGITS + number::number(rec, 38, 39)
+    cents(rec, 30, 39)
 }
 
 // Of two words that share position 87 the second one's last seven.

@@ -163,7 +163,7 @@ facts-by rules file h =
       short = w .1;
       even = e;
       reads = x .1;
-      sized = sized-parts 94 (length file / 94) file m;
+      sized = sized-parts 94 (length file / 94) file (omega (arith, m));
       whole = joined-parts 94 (length file / 94) file m;
       first = cut (length file / 94) (omega arith);
     }

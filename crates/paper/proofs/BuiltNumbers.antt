@@ -96,7 +96,7 @@ unfolding build trayRecords numbersIn
 built-numbers header tray h k m few =
     let e : length tray ≡ length tray / 96 * 96 = omega (arith, div-add-mod' (length tray) 96) in
     let bs : List (List ℕ) = map (drop 2) (parts 96 (length tray / 96) tray) in
-    let s : Sized 94 bs = bodies-sized (parts 96 (length tray / 96) tray) (sized-parts 96 (length tray / 96) tray e) in
+    let s : Sized 94 bs = bodies-sized (parts 96 (length tray / 96) tray) (sized-parts 96 (length tray / 96) tray (omega arith)) in
     let rs : List (List ℕ) = numbering 0 0 bs in
     ap numbersIn (closing-records header rs h (numbering-sized bs 0 0 s))
     ∙ rw k (numbers-controls rs (counted FileHeader nothingCounted header) ∙ numbers-numbering bs 0 0 s (omega (arith, length-map (parts 96 (length tray / 96) tray) (drop 2), length-parts 96 (length tray / 96) tray)))

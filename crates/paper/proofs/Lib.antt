@@ -38,3 +38,5 @@ pub mod Shared
 pub mod Size
 pub mod Counters
 pub mod BuiltNumbers
+pub mod Pieces
+pub mod Characters

@@ -1,11 +1,11 @@
 -- Records of one length, joined and cut; a record under another number.
 use Prim.Native.Nat.{ℕ, zero, suc, _+_, _*_, _≤_, _<_, _/_, _%_}
-use native.Mathlib.Nat.{suc-mul, zero-mul, mul-div-cancel}
+use native.Mathlib.Nat.{zero-add, suc-add, suc-mul, zero-mul, mul-div-cancel}
 use native.Mathlib.Omega.{arith}
 use mathlib.Core.List.{[], List, _∷_, _++_, append-assoc}
 use mathlib.Core.Path.{_≡_, refl, sym, ap, _∙_, ap₂}
 use lib.ListN.{length, getD, take, drop, length-append, take-append-drop, length-drop}
-use lib.Seq.{length-take-le, take-at, drop-at}
+use lib.Seq.{length-take-le, take-at, drop-at, drop-drop, take-append-le, drop-append-le}
 use Rattle.paper.specs.Kinds.{kindOf}
 use Rattle.paper.specs.Reading.{parts}
 use Rattle.paper.specs.Writing.{spelled, joined, numbered}
@@ -50,10 +50,34 @@ unfolding parts
 length-parts w zero l = refl
 length-parts w (suc n) l = ap suc (length-parts w n (drop w l))
 
-pub sized-parts : (w n : ℕ) (l : List ℕ) → length l ≡ n * w → Sized w (parts w n l)
+pub sized-parts : (w n : ℕ) (l : List ℕ) → n * w ≤ length l → Sized w (parts w n l)
 unfolding parts
 sized-parts w zero l h = tt
-sized-parts w (suc n) l h = (length-take-le w l (omega (arith, suc-mul n w)), sized-parts w n (drop w l) (length-drop w l ∙ omega (arith, suc-mul n w)))
+sized-parts w (suc n) l h =
+    (length-take-le w l (omega (arith, suc-mul n w)), sized-parts w n (drop w l) (omega (arith, length-drop w l, suc-mul n w)))
+
+-- some parts, and those behind them
+pub parts-add : (w n m : ℕ) (l : List ℕ) → parts w (n + m) l ≡ parts w n l ++ parts w m (drop (n * w) l)
+unfolding parts
+parts-add w zero m l = rw (zero-add m, zero-mul w) refl
+parts-add w (suc n) m l =
+    let e : w + n * w ≡ suc n * w = omega (arith, suc-mul n w) in
+    let rest : drop (n * w) (drop w l) ≡ drop (suc n * w) l = drop-drop (n * w) w l ∙ ap (λ (k : ℕ). drop k l) e in
+    rw (suc-add n m) (ap (λ (rs : List (List ℕ)). take w l ∷ rs) (parts-add w n m (drop w l) ∙ ap (λ (x : List ℕ). parts w n (drop w l) ++ parts w m x) rest))
+
+-- of a text that goes on
+pub parts-front : (w n : ℕ) (a b : List ℕ) → n * w ≤ length a → parts w n (a ++ b) ≡ parts w n a
+unfolding parts
+parts-front w zero a b h = refl
+parts-front w (suc n) a b h =
+    let l : w ≤ length a = omega (arith, suc-mul n w) in
+    rw (take-append-le w a b l, drop-append-le w a b l)
+    (ap (λ (rs : List (List ℕ)). take w a ∷ rs) (parts-front w n (drop w a) b (omega (arith, length-drop w a, suc-mul n w))))
+
+-- of two texts joined, the first of whole parts
+pub parts-append : (w n m : ℕ) (a b : List ℕ) → length a ≡ n * w → parts w (n + m) (a ++ b) ≡ parts w n a ++ parts w m b
+parts-append w n m a b h =
+    parts-add w n m (a ++ b) ∙ ap₂ _++_ (parts-front w n a b (omega arith)) (ap (parts w m) (drop-at a b (n * w) h))
 
 -- ---- numbers in records
 

@@ -138,7 +138,7 @@ unfolding strip build stripped trayRecords marked
 round header tray h k m f =
     let ts : List (List ℕ) = parts 96 (length tray / 96) tray in
     let e : length tray ≡ length tray / 96 * 96 = omega (arith, div-add-mod' (length tray) 96) in
-    let s : Sized 96 ts = sized-parts 96 (length tray / 96) tray e in
+    let s : Sized 96 ts = sized-parts 96 (length tray / 96) tray (omega arith) in
     let rs : List (List ℕ) = numbering 0 0 (map (drop 2) ts) in
     let z : Sized 94 rs = numbering-sized (map (drop 2) ts) 0 0 (bodies-sized ts s) in
     ap (λ (l : List (List ℕ)). joined (stripped l)) (closing-records header rs h z)

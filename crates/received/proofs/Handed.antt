@@ -19,7 +19,7 @@ use Rattle.paper.proofs.Exactly.{also-l, also-r, need-T, fine-also, need-met}
 use Rattle.paper.proofs.Normal.{field-front, field-numbered}
 use Rattle.paper.proofs.Every.{every-both}
 use Rattle.paper.proofs.Spelling.{spells-own}
-use Rattle.received.proofs.Characters.{good-spelled}
+use Rattle.paper.proofs.Characters.{good-spelled}
 use Rattle.received.proofs.Written.{good-part}
 
 -- ---- 6

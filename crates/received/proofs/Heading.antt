@@ -24,8 +24,8 @@ use Rattle.paper.proofs.Lists.{length-spelled}
 use Rattle.paper.proofs.Shared.{within-of}
 use Rattle.paper.proofs.Every.{every-both}
 use Rattle.paper.proofs.Spelling.{digits-spelled, value-spelled}
-use Rattle.received.proofs.Characters.{good-spelled}
-use Rattle.received.proofs.Pieces.{Wide, part-at, part-inner, piece-at, every-joined, offset}
+use Rattle.paper.proofs.Characters.{good-spelled}
+use Rattle.paper.proofs.Pieces.{Wide, part-at, part-inner, piece-at, every-joined, offset}
 use Rattle.received.proofs.Written.{good-part}
 
 -- ---- the entity's own field

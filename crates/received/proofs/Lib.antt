@@ -1,5 +1,3 @@
-pub mod Characters
-pub mod Pieces
 pub mod Written
 pub mod Handed
 pub mod Heading

@@ -26,7 +26,7 @@ use Rattle.paper.proofs.Exactly.{also-l, also-r, need-T}
 use Rattle.paper.proofs.Accepted.{Follows, file-begins, batch-opens, file-ends, first-individual, its-additional, next-individual, batch-closes, judged-facts, first-header, facts-by}
 use Rattle.paper.proofs.Digits.{number-bound}
 use Rattle.paper.proofs.Places.{parts-from}
-use Rattle.received.proofs.Pieces.{part-inner}
+use Rattle.paper.proofs.Pieces.{part-inner}
 
 never : {A : Type 0} → _≡_ {A = ℕ} 0 1 → A
 never z = absurd (omega arith)

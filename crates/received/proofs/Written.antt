@@ -17,8 +17,8 @@ use Rattle.paper.proofs.Lists.{length-spelled}
 use Rattle.paper.proofs.Tests.{and-both}
 use Rattle.paper.proofs.Every.{every-drop, every-take}
 use Rattle.paper.proofs.Spelling.{spells-last, spells-own}
-use Rattle.received.proofs.Characters.{good-spelled, good-blanks}
-use Rattle.received.proofs.Pieces.{Wide, piece-at, every-joined}
+use Rattle.paper.proofs.Characters.{good-spelled, good-blanks}
+use Rattle.paper.proofs.Pieces.{Wide, piece-at, every-joined}
 
 pub same-own : (a b : List ℕ) → a ≡ b → T (same a b)
 unfolding same

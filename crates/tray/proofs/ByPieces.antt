@@ -1,32 +1,27 @@
 -- A tray looked at in pieces of whole records: the first bad record of the whole is that of the first piece that has one.
 use Prim.Native.Nat.{ℕ, zero, suc, _+_, _*_, _/_, _%_, _≤_, _<_}
-use mathlib.Core.Bool.{Bool, true, false}
+use mathlib.Core.Bool.{Bool, true, false, _&&_}
 use mathlib.Core.List.{List, [], _∷_, _++_}
 use mathlib.Core.Path.{_≡_, refl, sym, ap, _∙_}
 use native.Mathlib.Nat.{zero-add, add-zero, suc-add, add-assoc, zero-mul, suc-mul}
 use native.Mathlib.Omega.{arith}
 use borrow.Author.Tests.{leb-true, leb-false}
-use lib.Dec.{leb}
+use lib.Dec.{leb, eqb}
 use lib.ListN.{length, take, drop, length-append, length-drop}
 use lib.Seq.{take-append-le, drop-append-le}
-use Rattle.paper.specs.Answers.{Said, accepted, refused, andThen, require}
+use Rattle.paper.specs.declared.answer.Answer.{Answer}
+use Rattle.paper.specs.Answers.{Said, accepted, refused, said, andThen, require}
+use Rattle.paper.specs.Buffers.{trayAnswer}
 use Rattle.paper.specs.Reading.{parts}
 use Rattle.paper.specs.Trays.{trayRecords, trayRecordGood, trayFault}
+use Rattle.paper.proofs.Lists.{parts-append}
 use Rattle.paper.proofs.Refusals.{refused-not, and-then-assoc}
 use Rattle.tray.specs.declared.pieces.Pieces.{Pieces}
-use Rattle.tray.specs.Seen.{mostSeen, SeenWhole, Seen, ReadOn}
+use Rattle.tray.specs.declared.pieces.Known.the-variants.{Finite, Endless}
+use Rattle.tray.specs.Seen.{mostSeen, SeenWhole, Seen, ReadOn, Tells}
 use Rattle.tray.proofs.Places.{length-records}
 
 -- ---- records one after another
-
-parts-append : (w n m : ℕ) (a b : List ℕ) → length a ≡ n * w → parts w (n + m) (a ++ b) ≡ parts w n a ++ parts w m b
-unfolding parts
-parts-append w zero m [] b h = rw zero-add refl
-parts-append w zero m (x ∷ a) b h = absurd (omega (arith, zero-mul w))
-parts-append w (suc n) m a b h =
-    let l : w ≤ length a = omega (arith, suc-mul n w) in
-    rw (suc-add, take-append-le w a b, drop-append-le w a b)
-    (ap (λ (rs : List (List ℕ)). take w a ∷ rs) (parts-append w n m (drop w a) b (length-drop w a ∙ omega (arith, suc-mul n w))))
 
 records-append : (a b : List ℕ) → length a % 96 ≡ 0 → trayRecords (a ++ b) ≡ trayRecords a ++ trayRecords b
 unfolding trayRecords
@@ -99,3 +94,18 @@ seen-on p r tray piece s none o = go (leb (p .records) mostSeen) refl
         let l : mostSeen < p .records = leb-false _ _ e in
         let same : r .records ≡ p .records = ap (λ (x : Pieces). x .records) (o .stays l) in
         record { whole = λ n. absurd (omega arith); endless = λ n. omega (arith, s .endless l, length-append tray piece) }
+
+-- ---- what is told
+
+-- of all of a tray, by what is known after its pieces: 207 as of the whole, else 201
+-- (not so with a look that takes a tray without end for one that has ended)
+pub seen-told : (p : Pieces) (header tray : List ℕ) (a : Answer) → Seen p tray → Tells p header (Finite a) → said a ≡ andThen (trayAnswer header tray) (refused 201 0)
+unfolding trayAnswer
+seen-told p header tray a seen t =
+    let w = seen .whole (t .0) in
+    let lengths : Said = require (eqb (length header) 94 && eqb (length tray % 96) 0) 207 0 in
+    t .1 ∙ rw (w .faults, w .left) (sym (and-then-assoc lengths (trayFault 0 (trayRecords tray)) (refused 201 0)))
+
+-- one that is told to have no end has more than 2^60 records
+pub seen-endless : (p : Pieces) (header tray : List ℕ) → Seen p tray → Tells p header Endless → mostSeen < length tray / 96
+seen-endless p header tray seen t = seen .endless t

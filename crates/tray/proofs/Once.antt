@@ -11,12 +11,9 @@ use Rattle.paper.specs.Answers.{said}
 use Rattle.paper.proofs.Tests.{T-of}
 use Rattle.paper.proofs.Numbers.{said-once}
 use Rattle.tray.specs.declared.pieces.Pieces.{Pieces}
-use Rattle.watch.specs.declared.Watch.{Watch}
-use Rattle.tray.specs.declared.pieces.Look.{Look}
 use Rattle.tray.specs.declared.pieces.Known.{Known}
 use Rattle.tray.specs.declared.pieces.Known.the-variants.{Finite, Endless}
 use Rattle.tray.specs.Seen.{mostSeen, Seen, ReadOn, Tells}
-use Rattle.tray.specs.Looks.{piecesIn, watchedIn, LookBegun, LookOn}
 
 -- what is known is its three parts
 same-parts : (r q : Pieces) → said (r .faults) ≡ said (q .faults) → r .records ≡ q .records → r .left ≡ q .left → r ≡ q
@@ -26,7 +23,7 @@ same-parts r q f n l =
     ∙ ap (λ (m : ℕ). record { faults = q .faults; records = q .records; left = m }) l
 
 -- few enough records to be looked at, or not
-either : (P : Type 0) (n : ℕ) → (n ≤ mostSeen → P) → (mostSeen < n → P) → P
+pub either : (P : Type 0) (n : ℕ) → (n ≤ mostSeen → P) → (mostSeen < n → P) → P
 either P n few many = go (leb n mostSeen) refl
   where
     go : (b : Bool) → leb n mostSeen ≡ b → P
@@ -52,14 +49,3 @@ tells-once p header (Finite a) (Finite b) s t = ap Finite (said-once a b (s .1 �
 tells-once p header (Finite a) Endless s t = absurd (omega (arith, s .0, t))
 tells-once p header Endless (Finite b) s t = absurd (omega (arith, s, t .0))
 tells-once p header Endless Endless s t = refl
-
--- ---- a look is its two parts
-
-same-look : (l m : Look) → piecesIn l ≡ piecesIn m → watchedIn l ≡ watchedIn m → l ≡ m
-same-look l m p w = ap (λ (x : Pieces). record { pieces = x; watch = watchedIn l }) p ∙ ap (λ (x : Watch). record { pieces = piecesIn m; watch = x }) w
-
-pub look-begun-once : (w : Watch) (l m : Look) → LookBegun w l → LookBegun w m → l ≡ m
-look-begun-once w l m a b = same-look l m (begun-once (piecesIn l) (piecesIn m) (a .seen) (b .seen)) (a .watch ∙ sym (b .watch))
-
-pub look-read-once : (before : Look) (piece : List ℕ) (l m : Look) → LookOn before piece l → LookOn before piece m → l ≡ m
-look-read-once before piece l m a b = same-look l m (read-once (piecesIn before) piece (piecesIn l) (piecesIn m) (a .seen) (b .seen)) (a .watch ∙ sym (b .watch))

@@ -4,7 +4,7 @@ use mathlib.Core.Bool.{_&&_}
 use mathlib.Core.List.{List, [], _∷_, map}
 use mathlib.Core.Logic.{_⊎_, inl, inr}
 use mathlib.Core.Path.{_≡_, refl, sym, ap, _∙_}
-use native.Mathlib.Nat.{add-zero, add-suc, zero-mul, suc-mul, div-add-mod'}
+use native.Mathlib.Nat.{add-zero, add-suc, zero-mul, suc-mul}
 use native.Mathlib.Numerals.{add-one}
 use native.Mathlib.Omega.{arith}
 use lib.Dec.{T, eqb, eqb→eq}
@@ -65,7 +65,7 @@ bodies-of (t ∷ ts) z = (body t (z .0), bodies-of ts (z .1))
 
 pub bodies-sized : (tray : List ℕ) → length tray % 96 ≡ 0 → Sized 94 (bodies tray)
 unfolding trayRecords
-bodies-sized tray h = bodies-of (trayRecords tray) (sized-parts 96 (length tray / 96) tray (omega (arith, div-add-mod' (length tray) 96)))
+bodies-sized tray h = bodies-of (trayRecords tray) (sized-parts 96 (length tray / 96) tray (omega arith))
 
 -- ---- the rest of a tray, from a record on
 

@@ -1,3 +1,2 @@
 pub mod Trays
 pub mod Seen
-pub mod Looks

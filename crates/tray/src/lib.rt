@@ -1,7 +1,8 @@
 // A tray: records of 96 bytes, a two-byte mark before each 94-byte body.
 ghost use mathlib.Core.Path.{_≡_};
 ghost use Prim.Native.Nat.{_+_, _*_, _≤_};
-ghost use lib.ListN.{length, take};
+ghost use mathlib.Core.List.{_++_};
+ghost use lib.ListN.{length};
 ghost use Rattle.paper.specs.Answers.{said};
 ghost use Rattle.paper.specs.Kinds.{kindOf};
 ghost use Rattle.paper.specs.Trays.{markGood, trayRecordGood, trayRecords, trayFault};
@@ -42,24 +43,32 @@ pub fn body_at(tray: &[u8], place: usize) -> &[u8]
 }
 
 // The mark that goes with a body's first byte.
-fn mark_good(body: &[u8], rec: &[u8]) -> bool
-    requires { ⌜ (length (now body) ≡ 94) × (length (now rec) ≡ 96) ⌝ }
-    ensures { λ r. ⌜ r ≡ markGood (kindOf (now (body .entry))) (take 2 (now (rec .entry))) ⌝ }
+fn mark_good(mark: &[u8], body: &[u8]) -> bool
+    requires { ⌜ (length (now mark) ≡ 2) × (length (now body) ≡ 94) ⌝ }
+    ensures { λ r. ⌜ r ≡ markGood (kindOf (now (body .entry))) (now (mark .entry)) ⌝ }
 {
     match kind::kind(body) {
-        Kind::BatchHeader => text::reads(rec, 1, 2, b"LO"),
-        Kind::Individual => text::reads(rec, 1, 2, b"IN"),
-        Kind::Additional => text::reads(rec, 1, 2, b"AD"),
+        Kind::BatchHeader => text::reads(mark, 1, 2, b"LO"),
+        Kind::Individual => text::reads(mark, 1, 2, b"IN"),
+        Kind::Additional => text::reads(mark, 1, 2, b"AD"),
         _ => false,
     }
 }
 
-fn good(rec: &[u8]) -> bool
-    requires { ⌜ length (now rec) ≡ 96 ⌝ }
-    ensures { λ r. ⌜ r ≡ trayRecordGood (now (rec .entry)) ⌝ }
+// A record that stands on a tray, or is to be put on one: its mark and its body.
+pub fn good(mark: &[u8], body: &[u8]) -> bool
+    requires { ⌜ (length (now mark) ≡ 2) × (length (now body) ≡ 94) ⌝ }
+    ensures { λ r. ⌜ r ≡ trayRecordGood (now (mark .entry) ++ now (body .entry)) ⌝ }
 {
-    let body = &rec[Tray::MARK..Tray::RECORD];
-    mark_good(body, rec) && text::reads(body, 88, 94, b"0000000")
+    mark_good(mark, body) && text::reads(body, 88, 94, b"0000000")
+}
+
+fn good_at(tray: &[u8], place: usize) -> bool
+    requires { ⌜ place * 96 + 96 ≤ length (now tray) ⌝ }
+    ensures { λ r. ⌜ r ≡ trayRecordGood (trayRecordAt (now (tray .entry)) place) ⌝ }
+{
+    let rec = record_at(tray, place);
+    good(&rec[0..Tray::MARK], &rec[Tray::MARK..Tray::RECORD])
 }
 
 // 207 at the first bad record.
@@ -69,7 +78,7 @@ fn fault(tray: &[u8]) -> Answer
     let records = tray.len() / Tray::RECORD;
     let mut place: usize = 0;
     while place < records {
-        if !good(record_at(tray, place)) {
+        if !good_at(tray, place) {
             return Answer::Refused(Fault::Tray, place);
         }
         place += 1;

@@ -5,13 +5,11 @@ ghost use Prim.Native.Nat.{_≤_};
 ghost use Rattle.paper.specs.Answers.{said, andThen};
 ghost use Rattle.paper.specs.Trays.{trayRecords, trayFault};
 ghost use Rattle.tray.specs.Seen.{mostSeen, Seen, ReadOn, Tells};
-ghost use Rattle.tray.specs.Looks.{piecesIn, LookBegun, LookOn};
 use crate::Tray;
 use crate::fault;
 use field::place::Record;
 use paper::answer::Answer;
 use paper::answer::Fault;
-use watch::Watch;
 
 // What is known after some pieces.
 pub struct Pieces {
@@ -45,7 +43,7 @@ impl Pieces {
     // More bytes than 64 bits can count: no tray in memory and no file has so many records.
     pub const MOST: usize = 1 << 60;
 
-    fn begun() -> Pieces
+    pub fn begun() -> Pieces
         ensures { λ r. ⌜ Seen r [] ⌝ }
     {
         Pieces {
@@ -56,7 +54,7 @@ impl Pieces {
     }
 
     // The next piece of the tray.
-    fn read(self, piece: &[u8]) -> Pieces
+    pub fn read(self, piece: &[u8]) -> Pieces
         ensures { λ r. ⌜ ReadOn self (now (piece .entry)) r ⌝ }
     {
         if self.records > Pieces::MOST {
@@ -72,7 +70,7 @@ impl Pieces {
     }
 
     // The lengths first, then the first bad record, and last 201.
-    fn answer(self, header: &[u8]) -> Known
+    pub fn answer(self, header: &[u8]) -> Known
         ensures { λ r. ⌜ Tells self (now (header .entry)) r ⌝ }
     {
         if self.records > Pieces::MOST {
@@ -86,44 +84,5 @@ impl Pieces {
         }
         let faults = self.faults;
         Known::Finite(faults.and_then(Answer::Refused(Fault::Length, 0)))
-    }
-}
-
-// A tray, as far as it was looked at. Only this room can make or change one, so that all of it was looked at that was watched.
-pub struct Look {
-    pieces: Pieces,
-    watch: Watch,
-}
-
-impl Look {
-    // Watched at the same place as another, from its first byte.
-    pub fn begun(watch: Watch) -> Look
-        ensures { λ r. ⌜ LookBegun watch r ⌝ }
-    {
-        Look {
-            pieces: Pieces::begun(),
-            watch: watch.anew(),
-        }
-    }
-
-    // The next piece.
-    pub fn read(self, piece: &[u8]) -> Look
-        ensures { λ r. ⌜ LookOn self (now (piece .entry)) r ⌝ }
-    {
-        let pieces = self.pieces;
-        let watch = self.watch;
-        let after = pieces.read(piece);
-        let watched = watch.on(piece);
-        Look {
-            pieces: after,
-            watch: watched,
-        }
-    }
-
-    pub fn answer(self, header: &[u8]) -> Known
-        ensures { λ r. ⌜ Tells (piecesIn self) (now (header .entry)) r ⌝ }
-    {
-        let pieces = self.pieces;
-        pieces.answer(header)
     }
 }

@@ -1,10 +1,10 @@
 use Prim.Native.Nat.{_-_}
-use mathlib.Core.Path.{_≡_, refl, sym, ap, _∙_}
+use mathlib.Core.Path.{_≡_, refl, sym, _∙_}
 use borrow.Author.Needs.{needs}
 use borrow.Author.Tests.{not-true, not-false}
 use native.Mathlib.Omega.{arith}
 use lib.ListN.{drop}
-use Rattle.paper.specs.Trays.{trayRecordGood, trayRecords, trayFault}
+use Rattle.paper.specs.Trays.{trayRecords, trayFault}
 use Rattle.tray.proofs.Passing.{stops, goes-on, ends}
 use Rattle.tray.proofs.fault.Statement.{statement}
 use Rattle.tray.proofs.fault.Tie as tie
@@ -17,20 +17,18 @@ abbrev μ-loop : tie.MeasureT-loop
 
 returns : tie.Need-returns Inv-loop μ-loop
 returns c =
-    let tested : tie.After-good2 Inv-loop μ-loop = search in
-    let read : tie.After-record-at Inv-loop μ-loop = search in
+    let tested : tie.After-good-at Inv-loop μ-loop = search in
     let turn : tie.In-loop Inv-loop μ-loop = search in
     let l : tie.At-loop Inv-loop μ-loop = search in
-    let here = ap trayRecordGood (sym (read .record-at .ensures .0)) ∙ sym (tested .good2 .ensures) in
+    let here = sym (tested .good-at .ensures) in
     sym (l .loop .inv ∙ stops _ _ (turn .loop-test .taken) (here ∙ not-true _ (c .if1 .taken)))
 
 loop-again : tie.Need-loop-again Inv-loop μ-loop
 loop-again c =
-    let tested : tie.After-good2 Inv-loop μ-loop = search in
-    let read : tie.After-record-at Inv-loop μ-loop = search in
+    let tested : tie.After-good-at Inv-loop μ-loop = search in
     let turn : tie.In-loop Inv-loop μ-loop = search in
     let l : tie.At-loop Inv-loop μ-loop = search in
-    let here = ap trayRecordGood (sym (read .record-at .ensures .0)) ∙ sym (tested .good2 .ensures) in
+    let here = sym (tested .good-at .ensures) in
     l .loop .inv ∙ goes-on _ _ (turn .loop-test .taken) (here ∙ not-false _ (c .if1 .left))
 
 returns-2 : tie.Need-returns-2 Inv-loop μ-loop
@@ -42,7 +40,7 @@ fault-spec =
     (tie.spec
     Inv-loop
     μ-loop
-    (λ c. refl) (λ c κs. omega arith) (λ c κs. search needs)
+    (λ c. refl) (λ c κs. omega arith)
     returns
     (λ c. omega arith) (λ c. omega arith)
     loop-again

@@ -2,6 +2,7 @@ use borrow.Author.Needs.{needs}
 use Rattle.demands.proofs.Building.{build-inside}
 use Rattle.files.proofs.Parts.{front}
 use Rattle.intake.proofs.Looking.{whole-fits}
+use Rattle.looking.specs.declared.Form.the-variants.{Tray}
 use Rattle.counter.proofs.Written.{fits}
 use Rattle.counter.proofs.jobs.build_of.Statement.{statement}
 use Rattle.counter.proofs.jobs.build_of.Tie as tie
@@ -10,7 +11,7 @@ inside : tie.Need-array-share-prefix-input
 inside c =
     let at : tie.After-took = search in
     let taken : tie.After-take = search in
-    whole-fits _ _ _ (at .took .given .1) (taken .take .ensures)
+    whole-fits Tray _ _ _ (at .took .given .1) (taken .take .ensures)
 
 slice-aggregate-build : tie.Need-slice-aggregate-build
 slice-aggregate-build c = front _ _ (inside (search))

@@ -1,7 +1,7 @@
 use borrow.Author.Needs.{needs}
 use Rattle.files.proofs.Parts.{read-further, not-filled, front}
-use Rattle.intake.proofs.trays.look_on.Statement.{statement}
-use Rattle.intake.proofs.trays.look_on.Tie as tie
+use Rattle.intake.proofs.long.look_on.Statement.{statement}
+use Rattle.intake.proofs.long.look_on.Tie as tie
 
 -- what was read is in the buffer
 inside : tie.Need-slice-reshare-prefix-read

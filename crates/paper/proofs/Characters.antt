@@ -1,13 +1,13 @@
--- What is written into an extract are characters: digits and blanks.
+-- What is written are characters: digits and blanks.
 use Prim.Native.Nat.{ℕ, zero, suc}
 use native.Mathlib.Omega.{arith}
 use lib.Dec.{T}
 use borrow.Author.Tests.{le-leb, ne-eqb}
 use Rattle.paper.specs.Fields.{every, good, digit, among}
 use Rattle.paper.specs.Writing.{spelled, blanks}
 use Rattle.paper.proofs.Digits.{digit-range}
 use Rattle.paper.proofs.Every.{every-other}
 use Rattle.paper.proofs.Spelling.{digits-spelled}
 
 -- digits are characters
 pub digit-good : (b : ℕ) → T (digit b) → T (good b)

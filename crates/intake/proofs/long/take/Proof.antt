@@ -1,7 +1,7 @@
 use borrow.Author.Needs.{needs}
 use Rattle.files.proofs.Parts.{just-opened, failed-under}
-use Rattle.intake.proofs.trays.take.Statement.{statement}
-use Rattle.intake.proofs.trays.take.Tie as tie
+use Rattle.intake.proofs.long.take.Statement.{statement}
+use Rattle.intake.proofs.long.take.Tie as tie
 
 take-from-requires : tie.Need-take-from-requires
 take-from-requires c κs =
@@ -19,7 +19,4 @@ pub take-spec : {M : Type 1} → statement M
 take-spec =
     tie.close
     (tie.spec
-    (λ c κs. search needs) (λ c. search needs)
-    take-from-requires
-    (λ c. search needs) (λ c. search needs)
-    returns-2)
+    (λ c κs. search needs) (λ c. search needs) take-from-requires (λ c. search needs) (λ c. search needs) returns-2)

@@ -1,14 +1,14 @@
-// A tray to build from: whole in a buffer; or longer than any file can be built from, looked at piece by piece, with the answer that building gives.
+// What a job takes up, by its form: whole in a buffer; or longer than the job can take, looked at piece by piece, with the answer that the job gives.
 ghost use Rattle.files.specs.Sources.{JustOpened};
 ghost use Rattle.intake.specs.Looking.{LookedOn, LongSoFar, LookedThrough, Told, Takes};
-use crate::held;
 use crate::held::Size;
 use files::taking::Failure;
 use files::taking::Filled;
 use files::taking::Readable;
 use files::taking::Source;
+use looking::Form;
+use looking::Look;
 use tray::pieces::Known;
-use tray::pieces::Look;
 
 // So many bytes are all of it; or it is longer, with what is told of it, always an answer, and all that was looked at. Each with its source after the last
 // piece. Or it could not be read.
@@ -39,15 +39,22 @@ fn look_on(seen: Look, source: Source, path: &[u8], buffer: &mut [u8]) -> Piece
     }
 }
 
-// To the last piece. Each full one is counted, so the loop ends by what the source may hand over.
-fn look_through(begun: Look, source: Source, path: &[u8], buffer: &mut [u8; Size::INPUT]) -> Reached
-    requires { ⌜ LongSoFar (now path) source begun ⌝ }
-    ensures { λ r. ⌜ LookedThrough (now (path .entry)) r ⌝ }
+// To the last piece. Each full one is counted, so the loop ends by what the source may hand over. Form and body are there for the contract alone.
+fn look_through(
+    form: Form,
+    begun: Look,
+    source: Source,
+    path: &[u8],
+    body: &[u8],
+    input: &mut [u8; Size::LONG],
+) -> Reached
+    requires { ⌜ LongSoFar form (now path) (now body) source begun ⌝ }
+    ensures { λ r. ⌜ LookedThrough form (now (path .entry)) (now (body .entry)) r ⌝ }
 {
     let mut seen = begun;
     let mut before = source;
     loop {
-        match look_on(seen, before, path, buffer) {
+        match look_on(seen, before, path, input) {
             Piece::Read(after, _, known) => {
                 if after.has_ended() {
                     return Reached::End(after, known);
@@ -62,43 +69,55 @@ fn look_through(begun: Look, source: Source, path: &[u8], buffer: &mut [u8; Size
     }
 }
 
-fn answered(begun: Look, source: Source, path: &[u8], header: &[u8]) -> Took
-    requires { ⌜ LongSoFar (now path) source begun ⌝ }
-    ensures { λ r. ⌜ Told (now (path .entry)) (now (header .entry)) r ⌝ }
+fn answered(
+    form: Form,
+    begun: Look,
+    source: Source,
+    path: &[u8],
+    body: &[u8],
+    input: &mut [u8; Size::LONG],
+) -> Took
+    requires { ⌜ LongSoFar form (now path) (now body) source begun ⌝ }
+    ensures { λ r. ⌜ Told form (now (path .entry)) (now (body .entry)) r ⌝ }
 {
-    let mut buffer = held::input();
-    match look_through(begun, source, path, &mut buffer) {
+    match look_through(form, begun, source, path, body, input) {
         Reached::End(after, seen) => {
             after.close();
-            Took::Long(seen.answer(header), after, seen)
+            Took::Long(seen.answer(body), after, seen)
         }
         Reached::Failed(failure) => Took::Failed(failure),
     }
 }
 
-fn take_from(source: Source, path: &[u8], header: &[u8], input: &mut [u8; Size::INPUT]) -> Took
+fn take_from(
+    form: Form,
+    source: Source,
+    path: &[u8],
+    body: &[u8],
+    input: &mut [u8; Size::LONG],
+) -> Took
     requires { ⌜ JustOpened (now path) source ⌝ }
-    ensures { λ r. ⌜ Takes (now (path .entry)) (now (header .entry)) (now (input .exit)) r ⌝ }
+    ensures { λ r. ⌜ Takes form (now (path .entry)) (now (body .entry)) (now (input .exit)) r ⌝ }
 {
-    let begun = Look::begun(source.watch());
+    let begun = Look::begun(form, body, source.watch());
     match look_on(begun, source, path, input) {
         Piece::Read(after, n, known) => {
             if after.has_ended() {
                 after.close();
                 return Took::Whole(n, after);
             }
-            answered(known, after, path, header)
+            answered(form, known, after, path, body, input)
         }
         Piece::Failed(failure) => Took::Failed(failure),
     }
 }
 
-// The tray under that name, its first piece into the buffer.
-pub fn take(path: &[u8], header: &[u8], input: &mut [u8; Size::INPUT]) -> Took
-    ensures { λ r. ⌜ Takes (now (path .entry)) (now (header .entry)) (now (input .exit)) r ⌝ }
+// What stands under that name, its first piece into the buffer; the body is what the job is handed with it.
+pub fn take(form: Form, path: &[u8], body: &[u8], input: &mut [u8; Size::LONG]) -> Took
+    ensures { λ r. ⌜ Takes form (now (path .entry)) (now (body .entry)) (now (input .exit)) r ⌝ }
 {
     match Source::open(path) {
-        Readable::At(source) => take_from(source, path, header, input),
+        Readable::At(source) => take_from(form, source, path, body, input),
         Readable::Failed(failure) => Took::Failed(failure),
     }
 }
