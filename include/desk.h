@@ -16,8 +16,8 @@
    Sessions
      A session is opened with a date (AAMMDD, as the number those digits spell), a currency (dollars or else pesos) and a list of
      entity numbers, in any order, repeats allowed, possibly empty. A bad date is 75; then a number not 1 to 499 is 208.
-     Every function but shaydhoqel_listing opens one first. Where the opening is refused, that is the answer, by its number and the
-     place SHAYDHOQEL_OPENING: nothing else is done, and nothing lent is written. */
+     Every function but shaydhoqel_listing and shaydhoqel_company opens one first. Where the opening is refused, that is the answer, by
+     its number and the place SHAYDHOQEL_OPENING: nothing else is done, and nothing lent is written. */
 #ifndef SHAYDHOQEL_DESK_H
 #define SHAYDHOQEL_DESK_H
 
@@ -33,9 +33,12 @@ extern "C" {
 #define SHAYDHOQEL_RECORD 94
 #define SHAYDHOQEL_FILE_LIMIT 940000
 
-/* Bytes of a tray's record, two for its mark; and of a buffer with room for the tray of every file. */
+/* Bytes of a tray's record, two for its mark; and of a buffer with room for every tray that a file is stripped to. */
 #define SHAYDHOQEL_TRAY_RECORD 96
 #define SHAYDHOQEL_TRAY_ROOM 960000
+
+/* Bytes of a record of a company's file. */
+#define SHAYDHOQEL_COMPANY_RECORD 250
 
 /* Bytes of the text of a reason, and of a motive list: one hundred lines, R00 first. */
 #define SHAYDHOQEL_TEXT 44
@@ -52,7 +55,7 @@ extern "C" {
 
 /* Bytes of stack that suffice for a thread that makes this call; at least 16 KB of them are left to the thread and its caller.
    SHAYDHOQEL_STACK suffices for every call. A call that reads takes most of it only where the counters of a file fall, which those of a
-   file that is built never do. */
+   file that is built never do. None is below the least that a thread may have: on Arm under Linux 131,072. */
 #define SHAYDHOQEL_STACK 655360
 #define SHAYDHOQEL_STACK_READ 393216
 #define SHAYDHOQEL_STACK_DAY 655360
@@ -61,6 +64,7 @@ extern "C" {
 #define SHAYDHOQEL_STACK_EXTRACT 524288
 #define SHAYDHOQEL_STACK_BUILD 131072
 #define SHAYDHOQEL_STACK_STRIP 524288
+#define SHAYDHOQEL_STACK_COMPANY 131072
 #define SHAYDHOQEL_STACK_RECEIVE 524288
 #define SHAYDHOQEL_STACK_SHOW 524288
 #define SHAYDHOQEL_STACK_REASONS 524288
@@ -91,7 +95,7 @@ enum shaydhoqel_source {
 /* Numbers on the counter, as document 01 lists them; acceptance is 0. */
 enum shaydhoqel_number {
     SHAYDHOQEL_ACCEPTED = 0,
-    /* file shorter than 188 or longer than 940,000 bytes, or no multiple of 94 */
+    /* file under 188 or over 940,000 bytes, or no multiple of 94; a company's under 250, or no multiple of 250 */
     SHAYDHOQEL_REFUSED_LENGTH = 201,
     /* character, order, fixed field, entity or control wrong */
     SHAYDHOQEL_REFUSED_FORMAT = 17,
@@ -111,13 +115,13 @@ enum shaydhoqel_number {
     SHAYDHOQEL_REFUSED_REFERENCE = 79,
     /* individual record, field 9: the information on the transaction */
     SHAYDHOQEL_REFUSED_INFORMATION = 87,
-    /* entity of the other currency */
+    /* entity of the other currency, or a company's detail not of the currency */
     SHAYDHOQEL_REFUSED_CURRENCY = 203,
     /* entity not on the roster */
     SHAYDHOQEL_REFUSED_ROSTER = 204,
     /* output buffer shorter than the output */
     SHAYDHOQEL_REFUSED_ROOM = 206,
-    /* tray or header body malformed, or motive list not 4,400 bytes */
+    /* tray, header body or LO body malformed, or motive list not 4,400 bytes */
     SHAYDHOQEL_REFUSED_TRAY = 207,
     /* entity number not 1 to 499, or, in a job for one entity, not on the roster */
     SHAYDHOQEL_REFUSED_ENTITY = 208,
@@ -190,6 +194,14 @@ struct shaydhoqel_spoken shaydhoqel_build(uint64_t date, bool dollars, const uin
    file's reading is, then by 206, with nothing written; the rest of out always stays. SHAYDHOQEL_TRAY_ROOM bytes are always enough. */
 struct shaydhoqel_spoken shaydhoqel_strip(uint64_t date, bool dollars, const uint64_t *entities, size_t entities_length,
                                           const uint8_t *file, size_t file_length, uint8_t *out, size_t out_length);
+
+/* Makes a company's file, details of SHAYDHOQEL_COMPANY_RECORD bytes and a closing record, into the tray of one batch, under an LO body
+   of 94 bytes: counts the bytes written at the front of out. No session is opened; the currency is that of the details. Refused by 201,
+   then by 207 (the LO body), both at 0; then as the first record at fault is, at its place: a detail by 17, 203, 19 or 75, the closing
+   record by 17; then by 206, at 0. Nothing is written then; the rest of out always stays. SHAYDHOQEL_TRAY_RECORD bytes for each record
+   of the file, the closing record among them, are always enough. */
+struct shaydhoqel_spoken shaydhoqel_company(bool dollars, const uint8_t *lo, size_t lo_length, const uint8_t *file, size_t file_length,
+                                            uint8_t *out, size_t out_length);
 
 /* Opens a session, and reads an extract in it as the desk of its entity does: counts its records. Refused as the opening is, then by 208,
    then as the reading is, where another desk's header, a foreign destination or a wrong batch number is 17. Nothing is posted. */

@@ -1,4 +1,6 @@
-/* The library called from C, on case L. Usage: desk_test samples/case-l.txt. Ends non-zero at the first thing that is not as it should be. */
+/* The library called from C, on case L and companies' files. Usage: desk_test samples/case-l.txt. Ends non-zero at the first thing that
+   is not as it should be. */
+#include "company.h"
 #include "desk.h"
 
 #include <stdio.h>
@@ -23,6 +25,11 @@ static uint8_t tray[TRAY_LENGTH];
 static uint8_t file_out[SHAYDHOQEL_FILE_LIMIT];
 static uint8_t tray_out[SHAYDHOQEL_TRAY_ROOM];
 static uint8_t listing_out[SHAYDHOQEL_LISTING];
+
+/* A company's file of two details, and its LO body, that of case L's first batch. */
+#define COMPANY_TRAY (3 * SHAYDHOQEL_TRAY_RECORD)
+static uint8_t company[3 * SHAYDHOQEL_COMPANY_RECORD], lo[SHAYDHOQEL_RECORD];
+static const uint64_t amounts[] = {12500, 40000};
 
 /* An extract for 402 with two rejections, whose additional records stand at 3 and 5; the first has a text. In the motive list the line of
    each R number is that number, in all its bytes. */
@@ -274,6 +281,80 @@ static void builds(void) {
     REQUIRE(all(' ', file_out, L_LENGTH) && all(JUNK, file_out + L_LENGTH, sizeof file_out - L_LENGTH));
 }
 
+/* Orders in this currency, under an LO body of this sender. */
+static void company_is(bool dollars, const char *sender, const char *orders) {
+    char expected[COMPANY_TRAY + 1];
+    uint8_t own[sizeof lo];
+    memcpy(own, lo, sizeof lo);
+    memcpy(own + 79, sender, 4);
+    snprintf(expected, sizeof expected, "LO%.94s%s", (const char *)own, orders);
+    make_company(company, dollars, SLICE(amounts));
+    refill();
+    REQUIRE(says(shaydhoqel_company(dollars, SLICE(own), SLICE(company), SLICE(tray_out)), SHAYDHOQEL_ACCEPTED, COMPANY_TRAY));
+    REQUIRE(holds(SLICE(tray_out), expected, COMPANY_TRAY));
+}
+
+static void companies(void) {
+    uint8_t closing[SHAYDHOQEL_COMPANY_RECORD], stripped[COMPANY_TRAY];
+    make_company(closing, false, NULL, 0);
+    refill();
+    REQUIRE(says(shaydhoqel_company(false, SLICE(lo), SLICE(closing), SLICE(tray_out)), SHAYDHOQEL_ACCEPTED, SHAYDHOQEL_TRAY_RECORD));
+    REQUIRE(memcmp(tray_out, "LO", 2) == 0 && holds(tray_out + 2, sizeof tray_out - 2, lo, sizeof lo));
+    company_is(true, "0901",
+               "IN637090200010000020513429100560000012500RECIBO 0001    PEREZ JUAN            000090100010000000"
+               "IN637090300020000000000000000000000040000RECIBO 0002    GOMEZ ANA             000090100010000000");
+    company_is(false, "0401",
+               "IN637040200010000020513429100560000012500RECIBO 0001    PEREZ JUAN            000040100010000000"
+               "IN637040300020000000000000000000000040000RECIBO 0002    GOMEZ ANA             000040100010000000");
+    /* on to a file, and back */
+    const size_t length = 6 * SHAYDHOQEL_RECORD;
+    REQUIRE(says(build(tray_out, COMPANY_TRAY, sizeof file_out), SHAYDHOQEL_ACCEPTED, length));
+    REQUIRE(says(shaydhoqel_strip(OPENING, file_out, length, SLICE(stripped)), SHAYDHOQEL_ACCEPTED, COMPANY_TRAY));
+    REQUIRE(memcmp(stripped, tray_out, COMPANY_TRAY) == 0);
+}
+
+/* What makes the company's file refused: a text at a record from 0 and a position from 1. */
+static const struct {
+    size_t place, position;
+    const char *text;
+    uint64_t number;
+} company_faults[] = {
+    {1, 1, "T", SHAYDHOQEL_REFUSED_FORMAT},            {1, 41, " ", SHAYDHOQEL_REFUSED_FORMAT},
+    {1, 58, "X", SHAYDHOQEL_REFUSED_FORMAT},           {1, 34, "000", SHAYDHOQEL_REFUSED_FORMAT},
+    {1, 34, "500", SHAYDHOQEL_REFUSED_FORMAT},         {1, 89, "               ", SHAYDHOQEL_REFUSED_FORMAT},
+    {1, 80, "a", SHAYDHOQEL_REFUSED_FORMAT},           {1, 59, "                      ", SHAYDHOQEL_REFUSED_FORMAT},
+    {1, 114, "82", SHAYDHOQEL_REFUSED_CURRENCY},       {1, 104, " ", SHAYDHOQEL_REFUSED_AMOUNT},
+    {1, 104, "0000000000", SHAYDHOQEL_REFUSED_AMOUNT}, {1, 26, "31062025", SHAYDHOQEL_REFUSED_DATE},
+    {1, 26, "01072025", SHAYDHOQEL_REFUSED_DATE},      {2, 1, "D", SHAYDHOQEL_REFUSED_FORMAT},
+    {2, 11, "3", SHAYDHOQEL_REFUSED_FORMAT},           {2, 18, "3", SHAYDHOQEL_REFUSED_FORMAT},
+    {2, 25, "1", SHAYDHOQEL_REFUSED_FORMAT},           {2, 113, "1", SHAYDHOQEL_REFUSED_FORMAT},
+};
+
+static void refused_companies(void) {
+    uint8_t changed[sizeof company], numbered[sizeof lo];
+    const size_t length = sizeof company;
+    memcpy(numbered, lo, sizeof lo);
+    numbered[sizeof lo - 1] = '1';
+    make_company(company, false, SLICE(amounts));
+    refill();
+    REQUIRE(says(shaydhoqel_company(false, NULL, 0, NULL, 0, NULL, 0), SHAYDHOQEL_REFUSED_LENGTH, 0));
+    REQUIRE(says(shaydhoqel_company(false, NULL, 0, company, SHAYDHOQEL_COMPANY_RECORD - 1, NULL, 0), SHAYDHOQEL_REFUSED_LENGTH, 0));
+    REQUIRE(says(shaydhoqel_company(false, SLICE(lo), company, length - 1, SLICE(tray_out)), SHAYDHOQEL_REFUSED_LENGTH, 0));
+    REQUIRE(says(shaydhoqel_company(false, NULL, 0, SLICE(company), SLICE(tray_out)), SHAYDHOQEL_REFUSED_TRAY, 0));
+    REQUIRE(says(shaydhoqel_company(false, lo, sizeof lo - 1, SLICE(company), SLICE(tray_out)), SHAYDHOQEL_REFUSED_TRAY, 0));
+    REQUIRE(says(shaydhoqel_company(false, SLICE(numbered), SLICE(company), SLICE(tray_out)), SHAYDHOQEL_REFUSED_TRAY, 0));
+    REQUIRE(says(shaydhoqel_company(true, SLICE(lo), SLICE(company), SLICE(tray_out)), SHAYDHOQEL_REFUSED_CURRENCY, 0));
+    for (size_t i = 0; i < sizeof company_faults / sizeof company_faults[0]; i++) {
+        const size_t place = company_faults[i].place;
+        memcpy(changed, company, length);
+        put_text(changed + place * SHAYDHOQEL_COMPANY_RECORD, company_faults[i].position, company_faults[i].text);
+        REQUIRE(says(shaydhoqel_company(false, SLICE(lo), SLICE(changed), SLICE(tray_out)), company_faults[i].number, place));
+    }
+    REQUIRE(says(shaydhoqel_company(false, SLICE(lo), SLICE(company), tray_out, COMPANY_TRAY - 1), SHAYDHOQEL_REFUSED_ROOM, 0));
+    REQUIRE(says(shaydhoqel_company(false, SLICE(lo), SLICE(company), NULL, 0), SHAYDHOQEL_REFUSED_ROOM, 0));
+    REQUIRE(all(JUNK, SLICE(tray_out)));
+}
+
 static void receives(void) {
     static uint8_t changed[sizeof returned];
     memcpy(changed, returned, sizeof changed);
@@ -331,6 +412,7 @@ int main(int argc, char **argv) {
     fclose(sample);
     make_tray();
     make_returned();
+    memcpy(lo, tray + 2, sizeof lo);
     reads();
     day_with_the_file_twice();
     empty_days();
@@ -338,6 +420,8 @@ int main(int argc, char **argv) {
     extracts();
     strips();
     builds();
+    companies();
+    refused_companies();
     receives();
     shows_reasons();
     all_reasons();

@@ -2,6 +2,7 @@
    refused. Usage: threads_test samples/case-l.txt. Ends non-zero at the first thing that is not as it should be. */
 #define _POSIX_C_SOURCE 200809L
 
+#include "company.h"
 #include "desk.h"
 
 #include <inttypes.h>
@@ -43,12 +44,27 @@ static uint8_t fallen[SHAYDHOQEL_FILE_LIMIT], fallen_handed[SHAYDHOQEL_FILE_LIMI
 static uint8_t rejected[9997 * SHAYDHOQEL_TRAY_RECORD], returned[SHAYDHOQEL_FILE_LIMIT], motives[SHAYDHOQEL_MOTIVES];
 static uint64_t ends[FILES];
 
-/* What makes a file refused at its last individual but one, by a byte at a position from 1. */
-static const struct {
+/* A company's file whose tray takes SHAYDHOQEL_TRAY_ROOM, and its LO body. */
+#define DETAILS 9999
+static uint8_t company[(DETAILS + 1) * SHAYDHOQEL_COMPANY_RECORD], lo[SHAYDHOQEL_RECORD];
+
+/* What makes a record refused, by a byte at a position from 1. */
+struct fault {
     size_t position;
     char byte;
     uint64_t number;
-} faults[] = {
+};
+
+/* The last detail of the company's file. */
+static const struct fault company_faults[] = {
+    {1, 'T', SHAYDHOQEL_REFUSED_FORMAT},   {34, 'X', SHAYDHOQEL_REFUSED_FORMAT},    {58, ' ', SHAYDHOQEL_REFUSED_FORMAT},
+    {34, '9', SHAYDHOQEL_REFUSED_FORMAT},  {80, 'x', SHAYDHOQEL_REFUSED_FORMAT},    {103, 'x', SHAYDHOQEL_REFUSED_FORMAT},
+    {104, ' ', SHAYDHOQEL_REFUSED_AMOUNT}, {115, '2', SHAYDHOQEL_REFUSED_CURRENCY}, {26, '9', SHAYDHOQEL_REFUSED_DATE},
+};
+#define COMPANY_FAULTS (sizeof company_faults / sizeof company_faults[0])
+
+/* The last individual but one of a file. */
+static const struct fault faults[] = {
     {2, '9', SHAYDHOQEL_REFUSED_FORMAT},    {4, '9', SHAYDHOQEL_REFUSED_FORMAT},       {5, '0', SHAYDHOQEL_REFUSED_ROSTER},
     {12, '1', SHAYDHOQEL_REFUSED_RESERVED}, {13, 'X', SHAYDHOQEL_REFUSED_ACCOUNT},     {30, ' ', SHAYDHOQEL_REFUSED_AMOUNT},
     {55, 'x', SHAYDHOQEL_REFUSED_FORMAT},   {77, '1', SHAYDHOQEL_REFUSED_INFORMATION}, {79, '1', SHAYDHOQEL_REFUSED_ADDITIONAL},
@@ -63,7 +79,7 @@ static const struct {
 /* What a thread lends, its own. */
 struct lent {
     uint8_t out[SHAYDHOQEL_TRAY_ROOM], listing[SHAYDHOQEL_LISTING];
-    uint8_t changed[SHAYDHOQEL_TRAY_ROOM];
+    uint8_t changed[sizeof company];
     uint64_t answers[2 * FILES];
     int64_t figures[FIGURES];
     uint64_t texts[2 * RECORDS];
@@ -240,6 +256,28 @@ static uint64_t job_strip(struct lent *lent) {
     return sum;
 }
 
+static uint64_t job_company(struct lent *lent) {
+    uint64_t sum = 0;
+    heard(&sum, shaydhoqel_company(false, lo, sizeof lo, company, sizeof company, lent->out, sizeof lent->out), 0, sizeof lent->out);
+    add(&sum, lent->out, sizeof lent->out);
+    heard(&sum, shaydhoqel_company(false, lo, sizeof lo, company, sizeof company, lent->out, sizeof lent->out - 1),
+          SHAYDHOQEL_REFUSED_ROOM, 0);
+    heard(&sum, shaydhoqel_company(false, lo, sizeof lo, company, sizeof company - 1, lent->out, sizeof lent->out),
+          SHAYDHOQEL_REFUSED_LENGTH, 0);
+    heard(&sum, shaydhoqel_company(false, lo, sizeof lo - 1, company, sizeof company, lent->out, sizeof lent->out),
+          SHAYDHOQEL_REFUSED_TRAY, 0);
+    /* without its closing record */
+    heard(&sum, shaydhoqel_company(false, lo, sizeof lo, company, sizeof company - SHAYDHOQEL_COMPANY_RECORD, lent->out, sizeof lent->out),
+          SHAYDHOQEL_REFUSED_FORMAT, DETAILS - 1);
+    for (size_t i = 0; i < COMPANY_FAULTS; i++) {
+        memcpy(lent->changed, company, sizeof company);
+        lent->changed[(DETAILS - 1) * SHAYDHOQEL_COMPANY_RECORD + company_faults[i].position - 1] = (uint8_t)company_faults[i].byte;
+        heard(&sum, shaydhoqel_company(false, lo, sizeof lo, lent->changed, sizeof company, lent->out, sizeof lent->out),
+              company_faults[i].number, DETAILS - 1);
+    }
+    return sum;
+}
+
 static uint64_t job_receive(struct lent *lent) {
     uint64_t sum = 0;
     heard(&sum, shaydhoqel_receive(OPENING, 402, returned, sizeof returned), 0, RECORDS);
@@ -310,6 +348,7 @@ static const struct job {
     {"extract", job_extract, SHAYDHOQEL_STACK_EXTRACT},
     {"build", job_build, SHAYDHOQEL_STACK_BUILD},
     {"strip", job_strip, SHAYDHOQEL_STACK_STRIP},
+    {"company", job_company, SHAYDHOQEL_STACK_COMPANY},
     {"receive", job_receive, SHAYDHOQEL_STACK_RECEIVE},
     {"show", job_show, SHAYDHOQEL_STACK_SHOW},
     {"reasons", job_reasons, SHAYDHOQEL_STACK_REASONS},
@@ -429,6 +468,12 @@ static void make_inputs(const uint8_t *l) {
     }
     memcpy(tray, long_tray, sizeof tray);
     make_returned(batch, individual);
+    static uint64_t amounts[DETAILS];
+    for (size_t i = 0; i < DETAILS; i++) {
+        amounts[i] = i + 1;
+    }
+    make_company(company, false, amounts, DETAILS);
+    memcpy(lo, tray + 2, sizeof lo);
     for (size_t i = 0; i < sizeof many_tray / SHAYDHOQEL_TRAY_RECORD; i++) {
         put(many_tray + i * SHAYDHOQEL_TRAY_RECORD, i % 2 == 0 ? "LO" : "IN", i % 2 == 0 ? batch : individual);
     }

@@ -112,20 +112,28 @@ fn received(job: &str, opening: Opening, words: &[&str]) -> Answer {
     }
 }
 
+fn currency(word: &str) -> Currency {
+    match word {
+        "dollars" => Currency::Dollars,
+        _ => Currency::Pesos,
+    }
+}
+
 /// The answer to one call.
 fn answer(line: &str) -> Answer {
     let words: Vec<_> = line.split(' ').collect();
     match words.as_slice() {
         ["listing", file] => Ok(listed(desk::listing(&fs::read(file)?))),
-        [job, date, currency, entities, words @ ..] => {
+        ["company", word, lo, file, room] => {
+            let (lo, file) = (fs::read(lo)?, fs::read(file)?);
+            written(room, |out| desk::company(currency(word), &lo, &file, out))
+        }
+        [job, date, word, entities, words @ ..] => {
             let entities = entities.split(',').filter(|&word| word != "nobody");
             let entities: Result<Vec<_>, _> = entities.map(str::parse).collect();
             let opening = Opening {
                 date: date.parse()?,
-                currency: match *currency {
-                    "dollars" => Currency::Dollars,
-                    _ => Currency::Pesos,
-                },
+                currency: currency(word),
                 entities: &entities?,
             };
             opened(job, opening, words)

@@ -5,7 +5,7 @@
     ...     opening.read(b"no file")
     ... except Refusal as refusal:
     ...     print(refusal.number.name, refusal)
-    LENGTH refused 201 at 0: file shorter than 188 or longer than 940,000 bytes, or no multiple of 94
+    LENGTH refused 201 at 0: file under 188 or over 940,000 bytes, or no multiple of 94; a company's under 250, or no multiple of 250
     >>> day = opening.day([b"no file", b""])
     >>> [int(refusal.number) for refusal in day.answers], day.cells[401].position
     ([201, 201], 0)
@@ -13,9 +13,9 @@
 `bash bindings/library` writes the library, libshaydhoqel.so. It is looked for beside this file, in ../target/library and in ../../../lib
 from here, or is the file that the environment names as SHAYDHOQEL_LIBRARY.
 
-Files, trays, header bodies and motive lists are bytes; any other buffer is copied first, so that no thread can change what the library
-reads. What is no number or no buffer is a TypeError before the call, a number of more than 64 bits an OverflowError. Calls let other
-threads run.
+Files, trays, header bodies, LO bodies and motive lists are bytes; any other buffer is copied first, so that no thread can change what the
+library reads. What is no number or no buffer is a TypeError before the call, a number of more than 64 bits an OverflowError. Calls let
+other threads run.
 """
 
 from __future__ import annotations
@@ -33,9 +33,11 @@ from typing import Any, Iterable, Optional, Tuple, Union
 # Bytes of a record, and of the longest file.
 RECORD = 94
 FILE_LIMIT = 940_000
-# Bytes of a tray's record, two for its mark; and of the longest tray of a file.
+# Bytes of a tray's record, two for its mark; and of the longest tray that a file is stripped to.
 TRAY_RECORD = 96
 TRAY_ROOM = 960_000
+# Bytes of a record of a company's file.
+COMPANY_RECORD = 250
 # Bytes of the text of a reason, and of a motive list: one hundred lines, R00 first.
 TEXT = 44
 MOTIVES = 4_400
@@ -64,6 +66,7 @@ STACK_LISTING = 458_752
 STACK_EXTRACT = 524_288
 STACK_BUILD = 131_072
 STACK_STRIP = 524_288
+STACK_COMPANY = 131_072
 STACK_RECEIVE = 524_288
 STACK_SHOW = 524_288
 STACK_REASONS = 524_288
@@ -72,7 +75,7 @@ Buffer = Union[bytes, bytearray, memoryview]
 
 
 class Currency(Enum):
-    """A session's currency; its name, as "pesos", will do for it."""
+    """The currency of a session, or of a company's file; its name, as "pesos", will do for it."""
 
     PESOS = "pesos"
     DOLLARS = "dollars"
@@ -88,7 +91,7 @@ class Fault(IntEnum):
         fault._value_, fault.words = number, words
         return fault
 
-    LENGTH = 201, "file shorter than 188 or longer than 940,000 bytes, or no multiple of 94"
+    LENGTH = 201, "file under 188 or over 940,000 bytes, or no multiple of 94; a company's under 250, or no multiple of 250"
     FORMAT = 17, "character, order, fixed field, entity or control wrong"
     AMOUNT = 19, "amount not ten digits, or zero"
     ADDITIONAL = 25, "additional record missing, surplus or wrong"
@@ -98,10 +101,10 @@ class Fault(IntEnum):
     ACCOUNT = 78, "individual record, field 5: the account"
     REFERENCE = 79, "individual record, field 7: the reference of the debit"
     INFORMATION = 87, "individual record, field 9: the information on the transaction"
-    CURRENCY = 203, "entity of the other currency"
+    CURRENCY = 203, "entity of the other currency, or a company's detail not of the currency"
     ROSTER = 204, "entity not on the roster"
     ROOM = 206, "output buffer shorter than the output"
-    TRAY = 207, "tray or header body malformed, or motive list not 4,400 bytes"
+    TRAY = 207, "tray, header body or LO body malformed, or motive list not 4,400 bytes"
     ENTITY = 208, "entity number not 1 to 499, or, in a job for one entity, not on the roster"
     IDENTIFIER = 209, "identifier already accepted from this origin"
     REASON = 214, "record asked for is not a rejection's additional record"
@@ -257,6 +260,20 @@ def listing(file: Buffer) -> bytes:
     return bytes(out[: _LIBRARY.shaydhoqel_listing(*_lent(_bytes(file)), out)])
 
 
+def company(currency: Union[Currency, str], lo: Buffer, file: Buffer) -> bytes:
+    """The tray of a company's file, details of 250 bytes and a closing record, under an LO body of 94 bytes; no session is opened. Refused
+    by 201, then by 207, both at 0, then as the first record at fault is: a detail by 17, 203, 19 or 75, the closing record by 17."""
+    held = _bytes(file)
+    out = bytearray(len(held) // COMPANY_RECORD * TRAY_RECORD)
+    return bytes(out[: company_into(currency, lo, held, out)])
+
+
+def company_into(currency: Union[Currency, str], lo: Buffer, file: Buffer, out: Buffer) -> int:
+    """Writes that tray at the front of a buffer, and counts its bytes; the rest of the buffer stays. Where it is too short, 206."""
+    dollars = Currency(currency) is Currency.DOLLARS
+    return _counted(_LIBRARY.shaydhoqel_company(dollars, *_lent(_bytes(lo)), *_lent(_bytes(file)), *_lent(_writable(out))))
+
+
 class _Spoken(ctypes.Structure):
     _fields_ = [("number", c_uint64), ("place", c_uint64)]
 
@@ -340,6 +357,7 @@ def _loaded() -> ctypes.CDLL:
         ("extract", _Spoken, opening + (c_uint64,) + read + written),
         ("build", _Spoken, opening + read + read + written),
         ("strip", _Spoken, opening + read + written),
+        ("company", _Spoken, (c_bool,) + read + read + written),
         ("receive", _Spoken, opening + (c_uint64,) + read),
         ("show", _Shown, opening + (c_uint64,) + read + read + (c_uint64,)),
         ("reasons", _Spoken, opening + (c_uint64,) + read + read + numbers),

@@ -13,10 +13,12 @@ import tempfile
 import threading
 import unittest
 from dataclasses import FrozenInstanceError, replace
+from itertools import cycle
 from pathlib import Path
 
 import shaydhoqel
-from shaydhoqel import ENTITIES, FILE_LIMIT, MOTIVES, RECORD, TEXT, TRAY_RECORD, Cell, Currency, Fault, Opening, Reason, Refusal
+from shaydhoqel import COMPANY_RECORD, ENTITIES, FILE_LIMIT, MOTIVES, RECORD, TEXT, TRAY_RECORD
+from shaydhoqel import Cell, Currency, Fault, Opening, Reason, Refusal, company, company_into
 
 HERE = Path(__file__).resolve().parent
 ROOT = HERE.parent.parent
@@ -38,6 +40,43 @@ JUNK = b"\xa5"
 LONGEST_TRAY = TRAY[:TRAY_RECORD] + 9996 * TRAY[TRAY_RECORD : 2 * TRAY_RECORD]
 # The line of each R number is that number, in all its bytes.
 LINES = b"".join(bytes([number]) * TEXT for number in range(100))
+# An LO body, and that of the same entity in dollars.
+LO = TRAY[2:TRAY_RECORD]
+LO_DOLLARS = LO[:79] + b"0901" + LO[83:]
+# What details of 125 and 400 become under each.
+COMPANY_TRAY = (
+    b"LO" + LO + b"IN637040200010000020513429100560000012500RECIBO 0001    PEREZ JUAN            000040100010000000"
+    b"IN637040300020000000000000000000000040000RECIBO 0002    GOMEZ ANA             000040100010000000"
+)
+COMPANY_TRAY_DOLLARS = (
+    b"LO" + LO_DOLLARS + b"IN637090200010000020513429100560000012500RECIBO 0001    PEREZ JUAN            000090100010000000"
+    b"IN637090300020000000000000000000000040000RECIBO 0002    GOMEZ ANA             000090100010000000"
+)
+
+
+def changed(file, place, position, text, length=COMPANY_RECORD):
+    """The file with another text, at a record of so many bytes, from 0, and a position from 1."""
+    start = place * length + position - 1
+    return file[:start] + text + file[start + len(text) :]
+
+
+def company_file(currency, *amounts):
+    """A company's file with a detail for each amount, to 402 and 403 in turn, and closed by their number and sum. Fields as source 004's
+    table has them."""
+    payers = (
+        (b"40200013", b"02051342910056", b"PEREZ JUAN", b"RECIBO 0001"),
+        (b"40300028", b"00000000000000", b"GOMEZ ANA", b"RECIBO 0002"),
+    )
+    code = {"pesos": b"80", "dollars": b"82"}[currency]
+    details = (
+        b"D%24b30062025%b000%b%-22b%8b%-15b%010d%b%135b" % (b"", block_1, block_2, client, b"", reference, amount, code, b"")
+        for (block_1, block_2, client, reference), amount in zip(cycle(payers), amounts)
+    )
+    closing = b"T%010d%07d%07d%78b%010d%137b" % (len(amounts), len(amounts), 0, b"", sum(amounts), b"")
+    return b"".join(details) + closing
+
+
+COMPANY, COMPANY_DOLLARS = company_file("pesos", 12500, 40000), company_file("dollars", 12500, 40000)
 
 
 def identified(identifier, file=L):
@@ -107,8 +146,48 @@ class Jobs(Case):
         self.assertEqual(OPENING.build(HEADER, TRAY), L)
         self.refused(Fault.FORMAT, 9, OPENING.strip, L[:-RECORD])
         self.refused(Fault.TRAY, 0, OPENING.build, HEADER[1:], TRAY)
-        self.refused(Fault.TRAY, 3, OPENING.build, HEADER, TRAY[: 3 * TRAY_RECORD] + b"XX" + TRAY[3 * TRAY_RECORD + 2 :])
+        self.refused(Fault.TRAY, 3, OPENING.build, HEADER, changed(TRAY, 3, 1, b"XX", TRAY_RECORD))
         self.refused(Fault.LENGTH, 0, OPENING.build, HEADER, LONGEST_TRAY + TRAY[-TRAY_RECORD:])
+
+    def test_company(self):
+        self.assertEqual(company("pesos", LO, COMPANY), COMPANY_TRAY)
+        self.assertEqual(company(Currency.DOLLARS, LO_DOLLARS, COMPANY_DOLLARS), COMPANY_TRAY_DOLLARS)
+        for currency in "pesos", "dollars":
+            self.assertEqual(company(currency, LO, company_file(currency)), b"LO" + LO)
+        self.assertEqual(OPENING.strip(OPENING.build(HEADER, COMPANY_TRAY)), COMPANY_TRAY)
+
+    def test_company_refused(self):
+        # 201 before 207, and that before the details
+        for file in b"", COMPANY[: COMPANY_RECORD - 1], COMPANY[1:], COMPANY + b" ":
+            self.refused(Fault.LENGTH, 0, company, "pesos", b"", file)
+        for lo in b"", LO[1:], LO + b" ", b"6" + LO[1:], LO[:-1] + b"1":
+            self.refused(Fault.TRAY, 0, company, "pesos", lo, b"T" + COMPANY[1:])
+        self.refused(Fault.CURRENCY, 0, company, "dollars", LO, COMPANY)
+        self.refused(Fault.CURRENCY, 0, company, "pesos", LO, COMPANY_DOLLARS)
+        for place, position, text, fault in (
+            (1, 1, b"T", Fault.FORMAT),
+            (1, 41, b" ", Fault.FORMAT),
+            (1, 58, b"X", Fault.FORMAT),
+            (1, 34, b"000", Fault.FORMAT),
+            (1, 34, b"500", Fault.FORMAT),
+            (1, 89, b" " * 15, Fault.FORMAT),
+            (1, 59, b" " * 22, Fault.FORMAT),
+            (1, 80, JUNK, Fault.FORMAT),
+            (1, 114, b"82", Fault.CURRENCY),
+            (1, 104, b"0" * 10, Fault.AMOUNT),
+            (1, 104, b" ", Fault.AMOUNT),
+            (1, 26, b"31062025", Fault.DATE),
+            (1, 26, b"30061925", Fault.DATE),
+            (2, 1, b"D", Fault.FORMAT),
+            (2, 11, b"3", Fault.FORMAT),
+            (2, 18, b"3", Fault.FORMAT),
+            (2, 25, b"1", Fault.FORMAT),
+            (2, 113, b"1", Fault.FORMAT),
+        ):
+            with self.subTest(place=place, position=position):
+                out = bytearray(JUNK * len(COMPANY_TRAY))
+                self.refused(fault, place, company_into, "pesos", LO, changed(COMPANY, place, position, text), out)
+                self.assertEqual(out, JUNK * len(COMPANY_TRAY))
 
     def test_receive(self):
         self.assertEqual(OPENING.receive(402, EXTRACT), 5)
@@ -118,8 +197,7 @@ class Jobs(Case):
         self.refused(Fault.FORMAT, 0, OPENING.receive, 401, EXTRACT)
         self.refused(Fault.FORMAT, 0, OPENING.receive, 402, L)
         self.refused(Fault.FORMAT, 0, OPENING.read, EXTRACT)
-        foreign = EXTRACT[: 2 * RECORD + 6] + b"3" + EXTRACT[2 * RECORD + 7 :]
-        other_batch = EXTRACT[: 2 * RECORD - 1] + b"2" + EXTRACT[2 * RECORD :]
+        foreign, other_batch = changed(EXTRACT, 2, 7, b"3", RECORD), changed(EXTRACT, 1, 94, b"2", RECORD)
         self.refused(Fault.FORMAT, 2, OPENING.receive, 402, foreign)
         self.refused(Fault.FORMAT, 1, OPENING.receive, 402, other_batch)
 
@@ -240,6 +318,7 @@ class Buffers(Case):
             self.assertEqual(OPENING.extract(402, file), EXTRACT)
             self.assertEqual(OPENING.day([file, L]).answers, (None, Refusal(209, 0)))
         for kind in bytearray, memoryview:
+            self.assertEqual(company("pesos", kind(LO), kind(COMPANY)), COMPANY_TRAY)
             extract, motives = kind(RETURNED), kind(LINES)
             self.assertEqual(OPENING.receive(402, extract), 11)
             self.assertEqual(OPENING.show(402, extract, motives, 8), bytes([29]) * TEXT)
@@ -250,6 +329,8 @@ class Buffers(Case):
             (OPENING.extract_into, 402, L, EXTRACT),
             (OPENING.build_into, HEADER, TRAY, L),
             (OPENING.strip_into, L, TRAY),
+            (company_into, "pesos", LO, COMPANY, COMPANY_TRAY),
+            (company_into, "dollars", LO_DOLLARS, COMPANY_DOLLARS, COMPANY_TRAY_DOLLARS),
         ):
             length = len(expected)
             out = bytearray(JUNK * (length + 7))
@@ -263,7 +344,7 @@ class Buffers(Case):
 
     def test_spaces_where_the_reading_refuses(self):
         out = bytearray(JUNK * (len(L) + 5))
-        zero = TRAY[: TRAY_RECORD + 31] + b"0" * 10 + TRAY[TRAY_RECORD + 41 :]
+        zero = changed(TRAY, 1, 32, b"0" * 10, TRAY_RECORD)
         self.refused(Fault.AMOUNT, 2, OPENING.build_into, HEADER, zero, out)
         self.assertEqual(out, b" " * len(L) + JUNK * 5)
 
@@ -277,8 +358,12 @@ class Buffers(Case):
             self.assertRaises(TypeError, OPENING.receive, 402, wrong)
             self.assertRaises(TypeError, OPENING.show, 402, RETURNED, wrong, 6)
             self.assertRaises(TypeError, OPENING.reasons, 402, wrong, LINES)
+            self.assertRaises(TypeError, company, "pesos", wrong, COMPANY)
+            self.assertRaises(TypeError, company, "pesos", LO, wrong)
         self.assertRaises(TypeError, OPENING.day, L)
         self.assertRaises(TypeError, OPENING.strip_into, L, bytes(1000))
+        self.assertRaises(TypeError, company_into, "pesos", LO, COMPANY, bytes(1000))
+        self.assertRaises(ValueError, company, "euros", LO, COMPANY)
         self.assertRaises(TypeError, OPENING.extract, "402", L)
         self.assertRaises(OverflowError, OPENING.extract, -1, L)
         self.assertRaises(OverflowError, OPENING.extract, 2**64, L)
@@ -302,7 +387,8 @@ class Junk(Case):
     def test_ends_in_an_answer(self):
         chance = random.Random(17)
         for _ in range(300):
-            file = bytearray(chance.choice([L, TRAY, HEADER, EXTRACT, RETURNED, bytes(188), chance.randbytes(chance.randrange(1000))]))
+            texts = L, TRAY, HEADER, EXTRACT, RETURNED, COMPANY, bytes(188), chance.randbytes(chance.randrange(1000))
+            file = bytearray(chance.choice(texts))
             for _ in range(chance.randrange(4)):
                 if file:
                     file[chance.randrange(len(file))] = chance.randrange(256)
@@ -318,6 +404,16 @@ class Junk(Case):
             except Refusal as refusal:
                 self.assertFalse(refusal.opening)
             self.shown_alike(file, LINES[: chance.choice([MOTIVES, MOTIVES, 0])])
+            self.taken_whole(file)
+
+    def taken_whole(self, file):
+        """A company's tray has the LO and a record for each detail; else the refusal stands at a record of the file."""
+        try:
+            tray = company("pesos", LO, file)
+            self.assertEqual(tray[:TRAY_RECORD], b"LO" + LO)
+            self.assertEqual(len(tray) // TRAY_RECORD, len(file) // COMPANY_RECORD)
+        except Refusal as refusal:
+            self.assertLess(refusal.place, max(len(file) // COMPANY_RECORD, 1))
 
     def shown_alike(self, file, motives):
         """Where the file is received, all reasons are those that are shown one by one; else both are refused alike."""
@@ -353,6 +449,7 @@ class Threads(Case):
     def setUpClass(cls):
         cls.file = OPENING.build(HEADER, LONGEST_TRAY)
         cls.returned = returned(2498 * rejection(b"36", 10, b"SIN FONDOS"), 2498 * rejection(b"31", 29, b""))
+        cls.details = company_file("pesos", *range(1, 10000))
         cls.jobs = {
             "READ": lambda: OPENING.read(cls.file),
             "DAY": lambda: OPENING.day([cls.file, L, identified(b"Z", cls.file)]),
@@ -361,6 +458,7 @@ class Threads(Case):
             "EXTRACT": lambda: OPENING.extract(402, cls.file),
             "BUILD": lambda: OPENING.build(HEADER, LONGEST_TRAY),
             "STRIP": lambda: OPENING.strip(cls.file),
+            "COMPANY": lambda: company("pesos", LO, cls.details),
             "RECEIVE": lambda: OPENING.receive(402, cls.returned),
             "SHOW": lambda: OPENING.show(402, cls.returned, LINES, 9996),
             "REASONS": lambda: OPENING.reasons(402, cls.returned, LINES),

@@ -5,7 +5,7 @@ import sys
 from pathlib import Path
 
 SAMPLES = Path(__file__).resolve().parents[2] / "samples"
-RECORD, TRAY_RECORD = 94, 96
+RECORD, TRAY_RECORD, COMPANY_RECORD = 94, 96, 250
 
 
 def sample(name):
@@ -90,6 +90,53 @@ def motive_lists():
     return {"motives": lines, "motives-short": lines[1:], "motives-long": lines + b" ", "motives-none": b""}
 
 
+def lo_bodies():
+    lo = sample("tray.txt")[2:TRAY_RECORD]
+    return {
+        "lo": lo,
+        "lo-dollars": changed(lo, (0, 80, b"0901")),
+        "lo-short": lo[1:],  # 207 at 0, and the next too
+        "lo-numbered": changed(lo, (0, 94, b"1")),
+    }
+
+
+def company_file(code):
+    """A company's file of two details, of 125 and 400. Fields as source 004's table has them."""
+    blank = b" " * COMPANY_RECORD
+    return changed(
+        3 * blank,
+        *((0, 1, b"D"), (0, 26, b"30062025"), (0, 34, b"40200013"), (0, 42, b"000"), (0, 45, b"02051342910056")),
+        *((0, 59, b"PEREZ JUAN"), (0, 89, b"RECIBO 0001"), (0, 104, b"0000012500"), (0, 114, code)),
+        *((1, 1, b"D"), (1, 26, b"30062025"), (1, 34, b"40300028"), (1, 42, b"000"), (1, 45, b"0" * 14)),
+        *((1, 59, b"GOMEZ ANA"), (1, 89, b"RECIBO 0002"), (1, 104, b"0000040000"), (1, 114, code)),
+        *((2, 1, b"T"), (2, 2, b"0000000002"), (2, 12, b"0000002"), (2, 19, b"0000000"), (2, 104, b"0000052500")),
+        record=COMPANY_RECORD,
+    )
+
+
+def companies():
+    """By name. What is said is the answer in pesos under `lo`."""
+    file = company_file(b"80")
+    other = lambda *change: changed(file, change, record=COMPANY_RECORD)
+    closing = changed(file[-COMPANY_RECORD:], (0, 11, b"0"), (0, 18, b"0"), (0, 104, b"0" * 10))
+    return {
+        "company": file,  # accepted, and the next too
+        "company-closing": closing,
+        "company-dollars": company_file(b"82"),  # 203 at 0, and accepted in dollars
+        "company-cut": file[:-1],  # 201 at 0
+        "company-kind": other(1, 1, b"T"),  # 17 at 1, and the next four too
+        "company-block": other(1, 45, b" "),
+        "company-entity": other(1, 34, b"500"),
+        "company-reference": other(1, 89, b" " * 15),
+        "company-client": other(1, 59, b"\n"),
+        "company-currency": other(1, 114, b"82"),  # 203 at 1
+        "company-amount": other(1, 104, b"0" * 10),  # 19 at 1
+        "company-due": other(1, 26, b"01072025"),  # 75 at 1
+        "company-count": other(2, 11, b"3"),  # 17 at 2, and the next too
+        "company-sum": other(2, 113, b"1"),
+    }
+
+
 OPENINGS = (
     "250630 pesos 401,402,403",
     "250630 dollars 403,402,401,401",
@@ -113,6 +160,15 @@ def member_plan(names, handed, lists):
                 yield f"show {opening} 402 {name} {motives} 5"
                 for entity in 401, 402, 404:
                     yield f"reasons {opening} {entity} {name} {motives}"
+
+
+def company_plan(bodies, names):
+    for currency in "pesos", "dollars":
+        for lo in bodies:
+            for name in names:
+                # too short by a byte for what two details give, and no buffer at all
+                for room in 1000, 287, 0:
+                    yield f"company {currency} {lo} {name} {room}"
 
 
 def plan(names):
@@ -141,8 +197,10 @@ def plan(names):
 if __name__ == "__main__":
     folder = Path(sys.argv[1])
     files, handed, lists = twenty(), handed_out(), motive_lists()
+    bodies, details = lo_bodies(), companies()
     headers = {"header": sample("header.txt"), "dollars-header": files["dollars"][:RECORD]}
-    for name, text in {**files, **headers, **handed, **lists}.items():
+    for name, text in {**files, **headers, **handed, **lists, **bodies, **details}.items():
         (folder / name).write_bytes(text)
-    for line in (*plan(list(files)), *member_plan(list(files), list(handed), list(lists))):
-        print(line)
+    names = list(files)
+    lines = *plan(names), *member_plan(names, list(handed), list(lists)), *company_plan(list(bodies), [*details, "empty", "case-l"])
+    print(*lines, sep="\n")

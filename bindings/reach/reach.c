@@ -88,8 +88,12 @@ static void print_written(struct shaydhoqel_spoken said, struct bytes out) {
     free(out.bytes);
 }
 
+static bool in_dollars(const char *word) {
+    return strcmp(word, "dollars") == 0;
+}
+
 static struct opening read_opening(char **words) {
-    struct opening opening = {strtoull(words[0], NULL, 10), strcmp(words[1], "dollars") == 0, {0}, 0};
+    struct opening opening = {strtoull(words[0], NULL, 10), in_dollars(words[1]), {0}, 0};
     if (strcmp(words[2], "nobody") != 0) {
         for (char *word = words[2]; word != NULL && opening.length < WORDS; word = strchr(word, ',')) {
             word += *word == ',';
@@ -137,6 +141,13 @@ static void listing(char *name) {
     uint64_t length = shaydhoqel_listing(LENT(file), out);
     printf("0 %" PRIu64, length);
     print_digest(out, length);
+    free(file.bytes);
+}
+
+static void company(char **words) {
+    struct bytes lo = load_one(words[1]), file = load_one(words[2]), out = room(strtoull(words[3], NULL, 10));
+    print_written(shaydhoqel_company(in_dollars(words[0]), LENT(lo), LENT(file), LENT(out)), out);
+    free(lo.bytes);
     free(file.bytes);
 }
 
@@ -223,6 +234,10 @@ static void reasons(const struct opening *opening, char **words) {
 static void run(char **words, size_t count) {
     if (strcmp(words[0], "listing") == 0) {
         listing(words[1]);
+        return;
+    }
+    if (strcmp(words[0], "company") == 0) {
+        company(words + 1);
         return;
     }
     struct opening opening = read_opening(words + 1);

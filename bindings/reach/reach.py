@@ -5,7 +5,7 @@ import sys
 from pathlib import Path
 
 sys.path.insert(0, str(Path(__file__).resolve().parent.parent / "python"))
-from shaydhoqel import Cell, Opening, Refusal, listing
+from shaydhoqel import Cell, Opening, Refusal, company_into, listing
 
 
 def digest(text):
@@ -54,6 +54,8 @@ def done(job, words):
     file = lambda name: Path(name).read_bytes()
     if job == "listing":
         return listed(listing(file(words[0])))
+    if job == "company":
+        return written(company_into, words[0], file(words[1]), file(words[2]), words[3])
     date, currency, entities, *rest = words
     opening = Opening(int(date), currency, [] if entities == "nobody" else map(int, entities.split(",")))
     if job == "extract":

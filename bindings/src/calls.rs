@@ -105,6 +105,16 @@ unsafe extern "C" {
         out_length: usize,
     ) -> Spoken;
 
+    fn shaydhoqel_company(
+        dollars: bool,
+        lo: *const u8,
+        lo_length: usize,
+        file: *const u8,
+        file_length: usize,
+        out: *mut u8,
+        out_length: usize,
+    ) -> Spoken;
+
     fn shaydhoqel_receive(
         date: u64,
         dollars: bool,
@@ -227,6 +237,22 @@ pub fn strip(opening: &Opening, file: &[u8], out: &mut [u8]) -> Spoken {
     let (lent, length) = (out.as_mut_ptr(), out.len());
     // SAFETY: as for a day.
     unsafe { opened!(shaydhoqel_strip, opening, [], [file], lent, length) }
+}
+
+pub fn company(currency: Currency, lo: &[u8], file: &[u8], out: &mut [u8]) -> Spoken {
+    let (lent, length) = (out.as_mut_ptr(), out.len());
+    // SAFETY: as for a day.
+    unsafe {
+        shaydhoqel_company(
+            dollars(currency),
+            lo.as_ptr(),
+            lo.len(),
+            file.as_ptr(),
+            file.len(),
+            lent,
+            length,
+        )
+    }
 }
 
 pub fn receive(opening: &Opening, entity: u64, file: &[u8]) -> Spoken {

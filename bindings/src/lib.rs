@@ -44,8 +44,11 @@ pub const FILE_LIMIT: usize = 940_000;
 /// Bytes of a tray's record, two for its mark.
 pub const TRAY_RECORD: usize = 96;
 
-/// Bytes of a buffer with room for the tray of every file.
+/// Bytes of a buffer with room for every tray that a file is stripped to.
 pub const TRAY_ROOM: usize = 960_000;
+
+/// Bytes of a record of a company's file.
+pub const COMPANY_RECORD: usize = 250;
 
 /// Bytes of the text of a reason.
 pub const TEXT: usize = 44;
@@ -107,6 +110,9 @@ pub const STACK_BUILD: usize = 131_072;
 /// For [`Opening::strip`].
 pub const STACK_STRIP: usize = 524_288;
 
+/// For [`company`].
+pub const STACK_COMPANY: usize = 131_072;
+
 /// For [`Opening::receive`].
 pub const STACK_RECEIVE: usize = 524_288;
 
@@ -115,6 +121,32 @@ pub const STACK_SHOW: usize = 524_288;
 
 /// For [`Opening::reasons`].
 pub const STACK_REASONS: usize = 524_288;
+
+/// Writes the tray of a company's file, details of [`COMPANY_RECORD`] bytes and a closing record, under an LO body of 94 bytes, at the front
+/// of the buffer, and counts its bytes; the rest of the buffer stays. No session is opened.
+///
+/// Refused by 201, then by 207, both at 0; then as the first record at fault is, at its place: a detail by 17, 203, 19 or 75, the closing
+/// record by 17; then by 206, with the buffer as it was. [`TRAY_RECORD`] bytes for each record of the file are always enough.
+///
+/// ```
+/// use desk::{company, Currency, TRAY_RECORD};
+///
+/// // of no details: 0 of them, 0 cents
+/// let file = format!("T{:024}{:78}{:010}{:137}", 0, "", 0, "");
+/// let lo = format!("5{:86}0000000", "");
+/// let mut tray = [0; TRAY_RECORD];
+/// company(Currency::Pesos, lo.as_bytes(), file.as_bytes(), &mut tray)?;
+/// assert_eq!(tray, format!("LO{lo}").as_bytes());
+/// # Ok::<(), desk::Refusal>(())
+/// ```
+pub fn company(
+    currency: Currency,
+    lo: &[u8],
+    file: &[u8],
+    out: &mut [u8],
+) -> Result<usize, Refusal> {
+    calls::company(currency, lo, file, out).counted()
+}
 
 /// What the program `positions` prints for this input: the listing of one file, or its refusal.
 pub fn listing(input: &[u8]) -> Vec<u8> {

@@ -33,7 +33,7 @@ macro_rules! faults {
 }
 
 faults! {
-    Length = 201, "file shorter than 188 or longer than 940,000 bytes, or no multiple of 94";
+    Length = 201, "file under 188 or over 940,000 bytes, or no multiple of 94; a company's under 250, or no multiple of 250";
     Format = 17, "character, order, fixed field, entity or control wrong";
     Amount = 19, "amount not ten digits, or zero";
     Additional = 25, "additional record missing, surplus or wrong";
@@ -43,10 +43,10 @@ faults! {
     Account = 78, "individual record, field 5: the account";
     Reference = 79, "individual record, field 7: the reference of the debit";
     Information = 87, "individual record, field 9: the information on the transaction";
-    Currency = 203, "entity of the other currency";
+    Currency = 203, "entity of the other currency, or a company's detail not of the currency";
     Roster = 204, "entity not on the roster";
     Room = 206, "output buffer shorter than the output";
-    Tray = 207, "tray or header body malformed, or motive list not 4,400 bytes";
+    Tray = 207, "tray, header body or LO body malformed, or motive list not 4,400 bytes";
     Entity = 208, "entity number not 1 to 499, or, in a job for one entity, not on the roster";
     Identifier = 209, "identifier already accepted from this origin";
     Reason = 214, "record asked for is not a rejection's additional record";

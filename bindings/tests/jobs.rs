@@ -1,11 +1,13 @@
-//! Every job on case L.
+//! Every job on case L, and companies' files.
 
 mod common;
+mod company;
 
 use common::{junk, lent, record, refused, tray_of, L, OPENING};
+use company::{company_file, lo};
 use desk::calls::{self, Spoken};
-use desk::{Cell, Currency, Fault, Opening};
-use desk::{ENTITIES, FIGURES, FILE_LIMIT, POSITION, RECEIVED, RECORD, SENT, TRAY_ROOM};
+use desk::{Cell, Currency, Fault, Opening, ENTITIES, FIGURES, FILE_LIMIT};
+use desk::{POSITION, RECEIVED, RECORD, SENT, TRAY_RECORD, TRAY_ROOM};
 
 const LISTING: &str = "ENTITY SENT RECEIVED NET
 401 2 1 60000
@@ -146,6 +148,63 @@ fn build_from_an_empty_tray() {
     let (answer, buffer) = lent(2 * RECORD, |out| OPENING.build(record(L, 0), &[], out));
     assert_eq!(answer, Ok(2 * RECORD));
     assert_eq!(OPENING.day(&[&buffer]).unwrap().answers, [Ok(())]);
+}
+
+/// What details of 125 and 400 become.
+const ORDERS: [(Currency, [&str; 2]); 2] = [
+    (
+        Currency::Pesos,
+        [
+            "IN637040200010000020513429100560000012500RECIBO 0001    PEREZ JUAN            000040100010000000",
+            "IN637040300020000000000000000000000040000RECIBO 0002    GOMEZ ANA             000040100010000000",
+        ],
+    ),
+    (
+        Currency::Dollars,
+        [
+            "IN637090200010000020513429100560000012500RECIBO 0001    PEREZ JUAN            000090100010000000",
+            "IN637090300020000000000000000000000040000RECIBO 0002    GOMEZ ANA             000090100010000000",
+        ],
+    ),
+];
+const AMOUNTS: [u64; 2] = [12_500, 40_000];
+
+#[test]
+fn trays_of_a_company() {
+    for (currency, orders) in ORDERS {
+        let (lo, file) = (lo(currency), company_file(currency, &AMOUNTS));
+        let tray = [b"LO", lo.as_slice(), orders.concat().as_bytes()].concat();
+        for behind in [0, 5] {
+            let job = |out: &mut [u8]| desk::company(currency, &lo, &file, out);
+            let (answer, buffer) = lent(tray.len() + behind, job);
+            assert_eq!(answer, Ok(tray.len()));
+            assert_eq!(buffer, [tray.as_slice(), &junk(behind)].concat());
+        }
+    }
+}
+
+#[test]
+fn a_closing_record_alone() {
+    let (lo, file) = (lo(Currency::Pesos), company_file(Currency::Pesos, &[]));
+    for currency in [Currency::Pesos, Currency::Dollars] {
+        let job = |out: &mut [u8]| desk::company(currency, &lo, &file, out);
+        let (answer, buffer) = lent(TRAY_RECORD + 5, job);
+        assert_eq!(answer, Ok(TRAY_RECORD));
+        assert_eq!(buffer, [b"LO", lo.as_slice(), &junk(5)].concat());
+    }
+}
+
+#[test]
+fn build_from_a_company_and_strip_back() {
+    let (lo, file) = (lo(Currency::Pesos), company_file(Currency::Pesos, &AMOUNTS));
+    let (answer, tray) = lent(3 * TRAY_RECORD, |out| {
+        desk::company(Currency::Pesos, &lo, &file, out)
+    });
+    assert_eq!(answer, Ok(tray.len()));
+    let (answer, built) = lent(6 * RECORD, |out| OPENING.build(record(L, 0), &tray, out));
+    assert_eq!(answer, Ok(built.len()));
+    let (answer, stripped) = lent(tray.len(), |out| OPENING.strip(&built, out));
+    assert_eq!((answer, stripped), (Ok(tray.len()), tray));
 }
 
 #[test]

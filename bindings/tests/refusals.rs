@@ -1,11 +1,13 @@
 //! Refusals: each names its number and place, and leaves the buffers as document 01 says.
 
 mod common;
+mod company;
 
 use common::{junk, lent, record, refused, tray_of, L, OPENING};
+use company::{company_file, lo};
 use desk::calls::{self, Spoken};
-use desk::{Cell, Fault, Opening, Place, Refusal, UnknownNumber};
-use desk::{ENTITIES, FIGURES, LISTING, MOTIVES, RECORD, TRAY_RECORD};
+use desk::{Cell, Currency, Fault, Opening, Place, Refusal, UnknownNumber};
+use desk::{COMPANY_RECORD, ENTITIES, FIGURES, LISTING, MOTIVES, RECORD, TRAY_RECORD};
 
 /// The job is refused, and its buffer stays as it was.
 fn stays(
@@ -79,6 +81,97 @@ fn building_what_the_reading_refuses_leaves_spaces() {
     assert_eq!(buffer, [vec![b' '; L.len()], junk(5)].concat());
 }
 
+/// A company's file of two details, and what an accepted one needs of the buffer.
+fn two_details() -> Vec<u8> {
+    company_file(Currency::Pesos, &[12_500, 40_000])
+}
+const TRAY: usize = 3 * TRAY_RECORD;
+
+/// The company's file is refused, for pesos.
+fn company_stays(expected: (Fault, usize), lo: &[u8], file: &[u8], room: usize) {
+    stays(room, expected, |out| {
+        desk::company(Currency::Pesos, lo, file, out)
+    });
+}
+
+/// With another text, at a record of so many bytes, from 0, and a position from 1.
+fn changed(bytes: &[u8], length: usize, place: usize, position: usize, text: &str) -> Vec<u8> {
+    let mut bytes = bytes.to_vec();
+    bytes[place * length + position - 1..][..text.len()].copy_from_slice(text.as_bytes());
+    bytes
+}
+
+#[test]
+fn a_company_at_0() {
+    let (lo, file) = (lo(Currency::Pesos), two_details());
+    let longer = [file.as_slice(), b" "].concat();
+    let unmarked = &changed(&lo, RECORD, 0, 1, "6");
+    // 201 before 207
+    for file in [&[], &file[..COMPANY_RECORD - 1], &file[1..], &longer] {
+        company_stays((Fault::Length, 0), unmarked, file, TRAY);
+    }
+    // 207 before the details
+    let numbered = changed(&lo, RECORD, 0, 94, "1");
+    let surplus = [lo.as_slice(), b" "].concat();
+    let no_detail = changed(&file, COMPANY_RECORD, 0, 1, "T");
+    for lo in [&[], &lo[1..], &surplus, unmarked, &numbered] {
+        company_stays((Fault::Tray, 0), lo, &no_detail, TRAY);
+    }
+    for room in [0, TRAY - 1] {
+        company_stays((Fault::Room, 0), &lo, &file, room);
+    }
+}
+
+#[test]
+fn a_company_at_a_record() {
+    let (lo, file) = (lo(Currency::Pesos), two_details());
+    for (place, position, text, fault) in [
+        (1, 1, "T", Fault::Format),
+        (1, 41, " ", Fault::Format),
+        (1, 58, "X", Fault::Format),
+        (1, 34, "000", Fault::Format),
+        (1, 34, "500", Fault::Format),
+        (1, 89, "               ", Fault::Format),
+        (1, 59, "                      ", Fault::Format),
+        (1, 103, "a", Fault::Format),
+        (1, 80, "\n", Fault::Format),
+        (1, 114, "82", Fault::Currency),
+        (1, 104, "0000000000", Fault::Amount),
+        (1, 104, " ", Fault::Amount),
+        (1, 26, "31062025", Fault::Date),
+        (1, 26, "30061925", Fault::Date),
+        (1, 26, "01072025", Fault::Date),
+        (2, 1, "D", Fault::Format),
+        (2, 11, "3", Fault::Format),
+        (2, 18, "3", Fault::Format),
+        (2, 25, "1", Fault::Format),
+        (2, 104, "0000052501", Fault::Format),
+    ] {
+        let file = changed(&file, COMPANY_RECORD, place, position, text);
+        // 206 comes after it
+        for room in [TRAY, 0] {
+            company_stays((fault, place), &lo, &file, room);
+        }
+    }
+}
+
+#[test]
+fn a_company_at_its_first_fault() {
+    let (lo, mut file) = (lo(Currency::Pesos), two_details());
+    // each before what was changed before it
+    for (place, position, text, fault) in [
+        (2, 1, "D", Fault::Format),
+        (1, 1, "T", Fault::Format),
+        (0, 26, "00000000", Fault::Date),
+        (0, 104, "0000000000", Fault::Amount),
+        (0, 114, "82", Fault::Currency),
+        (0, 1, "T", Fault::Format),
+    ] {
+        file = changed(&file, COMPANY_RECORD, place, position, text);
+        company_stays((fault, place), &lo, &file, TRAY);
+    }
+}
+
 #[test]
 fn empty_files() {
     let length = refused(Fault::Length, 0);
@@ -86,6 +179,8 @@ fn empty_files() {
     assert_eq!(OPENING.extract(402, &[], &mut []), length);
     assert_eq!(OPENING.strip(&[], &mut []), length);
     assert_eq!(OPENING.receive(402, &[]), length);
+    let company = desk::company(Currency::Pesos, &[], &[], &mut []);
+    assert_eq!(company, length);
     assert_eq!(OPENING.build(&[], &[], &mut []), refused(Fault::Tray, 0));
     assert_eq!(desk::listing(&[]), b"REFUSED 201 AT 0\n");
     let day = OPENING.day(&[b"", b""]).unwrap();
@@ -172,7 +267,7 @@ fn bad_openings() {
 #[test]
 fn shown_in_words() {
     let refusal = OPENING.strip(&[], &mut []).unwrap_err();
-    let words = "file shorter than 188 or longer than 940,000 bytes, or no multiple of 94";
+    let words = "file under 188 or over 940,000 bytes, or no multiple of 94; a company's under 250, or no multiple of 250";
     assert_eq!(refusal.to_string(), format!("refused 201 at 0: {words}"));
     let bad_date = Opening { date: 0, ..OPENING };
     let refusal = bad_date.read(L).unwrap_err();

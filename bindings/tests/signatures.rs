@@ -18,11 +18,12 @@ const PLACES: [&str; 4] = [
 ];
 
 /// Constants of the boundary, by those of the crates.
-const SHARED: [(&str, &str); 12] = [
+const SHARED: [(&str, &str); 13] = [
     ("RECORD", "Session::RECORD"),
     ("FILE_LIMIT", "Session::FILE_LIMIT"),
     ("TRAY_RECORD", "Tray::RECORD"),
     ("TRAY_ROOM", "Record::MOST * Tray::RECORD"),
+    ("COMPANY_RECORD", "Company::RECORD"),
     ("ENTITIES", "Session::ROSTER"),
     ("LISTING", "Listing::ROOM"),
     ("OPENING", "Spoken::OPENING"),
@@ -84,7 +85,7 @@ fn sources(name: &str) -> String {
 
 fn crates_constants() -> Constants {
     let crates = [
-        "paper", "field", "reading", "reasons", "tray", "desk", "listing", "export",
+        "paper", "field", "reading", "reasons", "tray", "company", "desk", "listing", "export",
     ];
     rust_constants(&crates.map(sources).concat())
 }

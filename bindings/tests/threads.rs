@@ -1,10 +1,13 @@
 //! Every job on threads: with the stack that it needs, and side by side.
 
 mod common;
+mod company;
 mod rejections;
 
 use common::{lent, record, refused, tray_of, L, OPENING};
-use desk::{Day, Fault, Reason, Refusal, FILE_LIMIT, RECORD, TRAY_RECORD, TRAY_ROOM};
+use company::{company_file, lo};
+use desk::{Currency, Day, Fault, Reason, Refusal};
+use desk::{COMPANY_RECORD, FILE_LIMIT, RECORD, TRAY_RECORD, TRAY_ROOM};
 use rejections::{motives, rejection};
 use std::thread;
 
@@ -23,7 +26,7 @@ enum Given<'a> {
 type Job<'a> = (usize, Box<dyn Fn() -> Given<'a> + Sync + 'a>);
 
 /// The longest tray that a file can be built from, the file, and one that lacks its last record; one of many batches whose numbers all have
-/// to be looked at; the longest extract with rejections.
+/// to be looked at; the longest extract with rejections; and a company's file whose tray takes [`TRAY_ROOM`].
 struct Inputs {
     tray: Vec<u8>,
     file: Vec<u8>,
@@ -31,6 +34,7 @@ struct Inputs {
     fallen: Vec<u8>,
     handed: Vec<u8>,
     motives: Vec<u8>,
+    details: Vec<u8>,
 }
 
 /// As many batches of one order as a file takes, the first number above the others.
@@ -62,6 +66,11 @@ impl Inputs {
         let (answer, handed) = lent(FILE_LIMIT, |out| OPENING.extract(402, &returned, out));
         assert_eq!(answer, Ok(FILE_LIMIT));
         let motives = motives();
+        let details = company_file(Currency::Pesos, &[12_500; TRAY_ROOM / TRAY_RECORD - 1]);
+        let (answer, _) = lent(TRAY_ROOM, |out| {
+            desk::company(Currency::Pesos, &lo(Currency::Pesos), &details, out)
+        });
+        assert_eq!(answer, Ok(TRAY_ROOM));
         Inputs {
             tray,
             file,
@@ -69,6 +78,7 @@ impl Inputs {
             fallen,
             handed,
             motives,
+            details,
         }
     }
 
@@ -77,6 +87,7 @@ impl Inputs {
         let mut jobs = self.read();
         jobs.extend(self.written());
         jobs.extend(self.received());
+        jobs.extend(self.of_a_company());
         jobs
     }
 
@@ -146,6 +157,22 @@ impl Inputs {
             (desk::STACK_SHOW, Box::new(move || show(handed, 9_998))),
             (desk::STACK_REASONS, Box::new(move || reasons(handed))),
             (desk::STACK_REASONS, Box::new(move || reasons(unclosed))),
+        ]
+    }
+
+    fn of_a_company(&self) -> Vec<Job<'_>> {
+        let file = &self.details;
+        let unclosed = &file[..file.len() - COMPANY_RECORD];
+        let tray = |file, room| {
+            let lo = lo(Currency::Pesos);
+            let job = |out: &mut [u8]| desk::company(Currency::Pesos, &lo, file, out);
+            Given::Written(lent(room, job))
+        };
+        let stack = desk::STACK_COMPANY;
+        vec![
+            (stack, Box::new(move || tray(file, TRAY_ROOM))),
+            (stack, Box::new(move || tray(file, TRAY_ROOM - 1))),
+            (stack, Box::new(move || tray(unclosed, TRAY_ROOM))),
         ]
     }
 }

@@ -4,6 +4,7 @@ pub mod addressed;
 mod asked;
 pub mod built;
 mod case;
+pub mod company;
 mod copies;
 pub mod counters;
 mod damage;

@@ -1,8 +1,9 @@
 //! An independent second program for document 01: reading, opening, presenting, extracting, building, stripping and the listing; with
-//! what document 02 adds: receiving and showing reasons (ticket 1), counters per batch (ticket 3). Beside it, the reading once more,
-//! tuned for speed.
+//! what document 02 adds: receiving and showing reasons (ticket 1), counters per batch (ticket 3), the company's file (ticket 4). Beside it,
+//! the reading once more, tuned for speed.
 
 pub mod building;
+pub mod company;
 pub mod controls;
 mod counters;
 pub mod currency;
@@ -28,6 +29,7 @@ pub mod tuned;
 pub mod writing;
 
 pub use building::build;
+pub use company::company;
 pub use currency::Currency;
 pub use listing::listing;
 pub use reading::{read, read_swept};

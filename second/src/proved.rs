@@ -118,6 +118,16 @@ pub fn strip(opening: &Opening, file: &[u8], out: &mut [u8]) -> Result<usize, Re
     counted(calls::strip(&theirs(opening), file, out))
 }
 
+/// The call alone, for measuring: no session is opened.
+pub fn company(
+    currency: Currency,
+    lo: &[u8],
+    company: &[u8],
+    out: &mut [u8],
+) -> Result<usize, Refusal> {
+    counted(calls::company(their_currency(currency), lo, company, out))
+}
+
 /// The call alone, for measuring too: opens a session and receives.
 pub fn receive(opening: &Opening, entity: u64, file: &[u8]) -> Result<usize, Refusal> {
     counted(calls::receive(&theirs(opening), entity, file))
@@ -219,6 +229,16 @@ pub fn built(
 /// As `extracted`.
 pub fn stripped(opening: &Opening, file: &[u8], buffer: &[u8]) -> Result<Written, String> {
     guarded(buffer, |lent| strip(opening, file, lent))
+}
+
+/// As `extracted`, without a session.
+pub fn made(
+    currency: Currency,
+    lo: &[u8],
+    company: &[u8],
+    buffer: &[u8],
+) -> Result<Written, String> {
+    guarded(buffer, |lent| self::company(currency, lo, company, lent))
 }
 
 /// Lends a copy of the buffer with bytes on both sides that nobody lent.

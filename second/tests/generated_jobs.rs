@@ -1,6 +1,7 @@
-//! Generated extractions, buildings, strippings, receivings and reasons: what was meant, and both ways there and back.
+//! Generated extractions, buildings, strippings, receivings, reasons and company files: what was meant, and both ways there and back.
 
 use second::generate::built::is_as_built;
+use second::generate::company::{generate_company, header_body};
 use second::generate::extract::generate_extract;
 use second::generate::lending::{Input, Lending};
 use second::generate::receive::generate_received;
@@ -8,6 +9,7 @@ use second::generate::show::generate_shown;
 use second::generate::strip::generate_strip;
 use second::generate::tray::generate_tray;
 use second::{build, receive, strip, Written};
+use std::cell::Cell;
 
 const CASES: u64 = 12_000;
 
@@ -99,6 +101,43 @@ fn what_was_built_strips_to_its_tray() {
     }
 }
 
+#[test]
+fn trays_of_companies_are_those_meant() {
+    let unknown = Cell::new(0);
+    are_those_meant(generate_company, |case, _, _| {
+        unknown.set(unknown.get() + u64::from(case.meant.is_none()));
+    });
+    // One family in twenty-six.
+    assert!(unknown.get() < CASES / 10);
+}
+
+/// An LO body that reads makes a tray that builds, up to 10,000 records, and comes back.
+#[test]
+fn trays_of_companies_build() {
+    let mut built = 0;
+    for number in 0..CASES {
+        let case = generate_company(3, number);
+        let left = case.run();
+        let Ok(length) = left.answer else { continue };
+        let tray = &left.buffer[..length];
+        let mut file = vec![b'#'; length + 3 * 94];
+        let answer = build(&case.rules, &header_body(&case.rules), tray, &mut file);
+        let orders = length / 96 - 1;
+        if case.input.lo_reads && (1..=9_996).contains(&orders) {
+            assert_eq!(answer, Ok(94 * (orders + 4)), "company {number}");
+        }
+        let Ok(length) = answer else { continue };
+        let mut back = vec![b'#'; tray.len()];
+        assert_eq!(
+            strip(&case.rules, &file[..length], &mut back),
+            Ok(tray.len())
+        );
+        assert!(back == tray, "company {number}");
+        built += 1;
+    }
+    assert!(built > 1_000, "{built}");
+}
+
 /// The file comes back exactly when it is numbered so and blank in its free control positions.
 #[test]
 fn what_was_stripped_builds_a_file_again() {
@@ -128,6 +167,9 @@ fn a_case_depends_on_seed_and_number_only() {
         assert!(one.input.tray == other.input.tray && one.buffer == other.buffer);
         let [one, other] = [7, 7].map(|seed| generate_strip(seed, number));
         assert!(one.input.file == other.input.file && one.buffer == other.buffer);
+        let [one, other] = [7, 7].map(|seed| generate_company(seed, number));
+        assert!(one.input.file == other.input.file && one.input.lo == other.input.lo);
+        assert!(one.buffer == other.buffer && one.meant == other.meant);
         let [one, other] = [7, 7].map(|seed| generate_received(seed, number));
         assert!(one.file == other.file && one.entity == other.entity);
         let [one, other] = [7, 7].map(|seed| generate_shown(seed, number));

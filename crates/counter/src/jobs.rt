@@ -45,7 +45,7 @@ pub(crate) fn put(path: &[u8], i: usize, bytes: &[u8]) -> Handed
 }
 
 // Acceptance is said once the bytes are where they belong.
-fn hand_over(word: usize, output: Output, out: &[u8]) -> Ended
+pub(crate) fn hand_over(word: usize, output: Output, out: &[u8]) -> Ended
     requires { ⌜ InBuffer output (now out) ⌝ }
 {
     let Output::Accepted(n) = output else {
@@ -207,7 +207,7 @@ fn build_of(session: Session, header: &[u8], path: &[u8]) -> Ended {
     hand_over(Word::THIRD, output, &out)
 }
 
-fn say_long(took: Took) -> Ended {
+pub(crate) fn say_long(took: Took) -> Ended {
     let Took::Long(known, _, _) = took else {
         return Ended::Undone;
     };

@@ -15,6 +15,7 @@ use typed::call::Word;
 use typed::words;
 
 mod jobs;
+mod making;
 mod member;
 mod say;
 mod share;
@@ -23,9 +24,12 @@ mod share;
 fn called() -> Asked {
     let mut job = io::buffer();
     let length = os::arg(Word::JOB, &mut job);
+    let mut next = io::buffer();
+    let span = os::arg(Word::COMPANY_CURRENCY, &mut next);
     let mut currency = io::buffer();
     let width = os::arg(Word::CURRENCY, &mut currency);
-    call::asked_for(&job[..length], &currency[..width], os::arg_count())
+    let count = os::arg_count();
+    call::asked_for(&job[..length], &next[..span], &currency[..width], count)
 }
 
 fn date() -> u64
@@ -48,6 +52,7 @@ fn usage() {
         \x20      counter receive DATE CURRENCY ROSTER ENTITY EXTRACT\n\
         \x20      counter reason DATE CURRENCY ROSTER ENTITY EXTRACT MOTIVES RECORD\n\
         \x20      counter reasons DATE CURRENCY ROSTER ENTITY EXTRACT MOTIVES\n\
+        \x20      counter company CURRENCY LO COMPANY OUT\n\
         \x20      counter explain NUMBER\n\
         \x20      counter version\n\
         DATE is AAMMDD, CURRENCY pesos or dollars, ROSTER a file of entity numbers or the word all.\n",
@@ -66,19 +71,26 @@ fn open_for(job: Job, currency: Currency, path: &[u8]) -> Ended {
     jobs::run(job, opened, roll)
 }
 
-// What is asked for, done.
-fn serve() -> Ended {
-    let asked = called();
-    let Asked::To(job, currency) = asked else {
-        usage();
-        return Ended::Undone;
-    };
+// A job in a session of a currency.
+fn serve_in(job: Job, currency: Currency) -> Ended {
     let mut path = io::buffer();
     let length = taking::name(Word::ROSTER, &mut path);
     if length == 0 {
         return Ended::Undone;
     }
     open_for(job, currency, &path[..length])
+}
+
+// What is asked for, done.
+fn serve() -> Ended {
+    match called() {
+        Asked::To(job, currency) => serve_in(job, currency),
+        Asked::Company(currency) => making::make(currency),
+        Asked::Nothing => {
+            usage();
+            Ended::Undone
+        }
+    }
 }
 
 fn main() {

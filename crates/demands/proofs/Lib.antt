@@ -15,4 +15,6 @@ pub mod Receiving
 pub mod Showing
 pub mod Sizes
 pub mod LongTrays
+pub mod CompanyFiles
+pub mod Company
 pub mod Demands

@@ -7,12 +7,14 @@ use mathlib.Core.Path.{_≡_, refl}
 use native.Mathlib.Omega.{arith}
 use lib.Dec.{leb, eqb}
 use lib.ListN.{length, getD}
+use Rattle.paper.specs.declared.rules.Currency.{Currency}
 use Rattle.paper.specs.declared.rules.Rules.{Rules}
 use Rattle.paper.specs.Answers.{Said, accepted, refused, andThen, require}
 use Rattle.paper.specs.Fields.{within, among, every}
 use Rattle.paper.specs.Dates.{isDate}
+use Rattle.paper.specs.Checks.{Check, fine, wrong}
 use Rattle.paper.specs.Records.{ReadingRules, inHouse, atDesk}
-use Rattle.paper.specs.Reading.{lengthGood, readingBy, reading}
+use Rattle.paper.specs.Reading.{at, lengthGood, readingBy, reading}
 use Rattle.paper.specs.Extract.{extract}
 use Rattle.paper.specs.Trays.{trayRecords, trayRecordGood, trayFault, build, strip}
 use Rattle.paper.specs.Buffers.{written, roomFor, entityGiven, extracting, stripping, trayAnswer, builtAs, builtIf, buildable, building}
@@ -24,6 +26,9 @@ use Rattle.paper.proofs.Tests.{T-of, and-l, within-range}
 use Rattle.paper.proofs.Lists.{length-parts}
 use Rattle.paper.proofs.Refusals.{refused-not}
 use Rattle.paper.proofs.Stands.{both-stand, stands-by}
+use Rattle.company.specs.Details.{detail}
+use Rattle.company.specs.Files.{wholeDetails, detailsOf, closingOf, loGood, detailsFault, amountsIn, closingGood, closingFault, companyAnswer, companyTray, company}
+use Rattle.company.proofs.Sizes.{details-count}
 use Rattle.export.specs.declared.Spoken.{Spoken}
 use Rattle.export.specs.Spoken.{Delivered, OfOpening, openingPlace, spokenOf, deliveredOf, notOpened, afterOpening, inSession, readOf}
 use Rattle.export.specs.Day.{Day, dayOf, dayListed}
@@ -138,12 +143,49 @@ module _ (header tray buffer : List ℕ) where
       go accepted h = read (reading rules file) (further (reading rules file) (omega arith) (reading-at-most rules file))
       go (refused n place) h = h
 
+checked-at-most : (m place : ℕ) (c : Check) → place ≤ m → AtMost m (at place c)
+unfolding at
+checked-at-most m place fine l = tt
+checked-at-most m place (wrong n) l = l
+
+details-at-most : (currency : Currency) (lo : List ℕ) (place : ℕ) (rs : List (List ℕ)) → AtMost (place + length rs) (detailsFault currency lo place rs)
+unfolding detailsFault
+details-at-most currency lo place [] = tt
+details-at-most currency lo place (r ∷ rs) =
+    both-stand (AtMost (place + suc (length rs))) (at place (detail currency lo r)) (detailsFault currency lo (place + 1) rs) tt
+    (checked-at-most _ place (detail currency lo r) (omega arith))
+    (further (detailsFault currency lo (place + 1) rs) (omega arith) (details-at-most currency lo (place + 1) rs))
+
+company-at-most : (currency : Currency) (lo file buffer : List ℕ) → AtMost (length (detailsOf file)) (company currency lo file buffer .answer)
+unfolding company companyAnswer closingFault roomFor
+company-at-most currency lo file buffer =
+    let ds = detailsOf file in
+    let new = companyTray currency lo file in
+    let most = AtMost (length ds) in
+    written-at-most (length ds) _ new buffer
+    (both-stand most (companyAnswer currency lo file) _ tt
+    (both-stand most (require (wholeDetails (length file)) 201 0) _ tt
+    (required-at-most _ (wholeDetails (length file)) 201 0 (omega arith))
+    (both-stand most (require (loGood lo) 207 0) _ tt
+    (required-at-most _ (loGood lo) 207 0 (omega arith))
+    (both-stand most (detailsFault currency lo 0 ds) _ tt
+    (further (detailsFault currency lo 0 ds) (omega arith) (details-at-most currency lo 0 ds))
+    (required-at-most _ (closingGood (length ds) (amountsIn ds) (closingOf file)) 17 (length ds) (omega arith)))))
+    (required-at-most _ (leb (length new) (length buffer)) 206 0 (omega arith)))
+
 -- ---- what a job says by itself is no opening's
 
 own : (size m : ℕ) (a : Said) → AtMost m a → m < openingPlace → OfOpening (spokenOf size a) → ⊥
 unfolding spokenOf
 own size m accepted h l o = omega (arith, o .0)
 own size m (refused n place) h l o = omega (arith, o .1)
+
+-- so where no session is opened, no caller is told of one; no file of 64 bits has as many records
+pub company-apart : (currency : Currency) (lo file buffer : List ℕ) → length file ≤ openingPlace
+    → OfOpening (deliveredOf (company currency lo file buffer) .spoken) → ⊥
+unfolding deliveredOf
+company-apart currency lo file buffer l =
+    own _ (length (detailsOf file)) _ (company-at-most currency lo file buffer) (omega (arith, details-count file))
 
 -- ---- the opening's answer
 

@@ -15,6 +15,7 @@ use paper::answer::Fault;
 use paper::answer::Output;
 use paper::rules::Currency;
 
+pub mod companies;
 pub mod day;
 pub mod extract;
 mod figures;

@@ -29,31 +29,31 @@ module _ (f : List ℕ) (h : digits f ≡ true) where
   field-told l = sym (eight-value f l) ∙ a-number f h refl
 
 -- a field of ten: eight in one word, and two
-module _ (r : List ℕ) (first last : ℕ) (h : HasField r first last) (w : last ≡ first + 9) where
+module _ (r : List ℕ) (first : ℕ) (h : HasField r first (first + 9)) where
   abbrev eight : List ℕ
   eight = field r first (first + 7)
 
   abbrev two : List ℕ
-  two = field r (first + 8) last
+  two = field r (first + 8) (first + 9)
 
-  ten : field r first last ≡ eight ++ two
-  ten = parted-before r first (first + 7) (first + 8) last (h .0) (omega arith) (omega arith) (omega arith)
+  ten : field r first (first + 9) ≡ eight ++ two
+  ten = parted-before r first (first + 7) (first + 8) (first + 9) (h .0) (omega arith) (omega arith) (omega arith)
 
   pub eight-long : length eight ≡ 8
   eight-long = part-length r first (first + 7) (omega arith) ∙ omega arith
 
   pub cents-told : digits eight ≡ true → digits two ≡ true
-      → (value (take 4 eight) * 10000 + value (drop 4 eight)) * 100 + number two ≡ number (field r first last)
+      → (value (take 4 eight) * 10000 + value (drop 4 eight)) * 100 + number two ≡ number (field r first (first + 9))
   cents-told k m =
       let e = eight-value eight eight-long in
-      let l : length two ≡ 2 = part-length r (first + 8) last (omega arith) ∙ omega arith in
+      let l : length two ≡ 2 = part-length r (first + 8) (first + 9) (omega arith) ∙ omega arith in
       let n = a-number two m refl in
       rw (ten, number-joined eight two k m, e, l, ← n)
 
-  pub cents-first : digits eight ≡ false → 0 ≡ number (field r first last)
+  pub cents-first : digits eight ≡ false → 0 ≡ number (field r first (first + 9))
   cents-first k = rw ten (first-none eight two k)
 
-  pub cents-last : digits two ≡ false → 0 ≡ number (field r first last)
+  pub cents-last : digits two ≡ false → 0 ≡ number (field r first (first + 9))
   cents-last k = rw ten (last-none eight two k)
 
 module _ (r : List ℕ) (l : length r ≡ 94) where

@@ -25,19 +25,19 @@ pub enum Sequence {
     Other,
 }
 
-// The number in a field of ten; nothing where they are not ten digits.
-pub fn cents(rec: &[u8], first: usize, last: usize) -> u64
-    requires { ⌜ HasField (now rec) first last ⌝ }
-    requires { ⌜ last ≡ first + 9 ⌝ }
-    ensures { λ r. ⌜ (r ≡ number (field (now (rec .entry)) first last)) × (r < 10 ^ 10) ⌝ }
+// The number in ten positions from the first on; nothing where they are not ten digits. The last two are counted from it too, so that the compiler sees
+// how many they are.
+pub fn cents(rec: &[u8], first: usize) -> u64
+    requires { ⌜ HasField (now rec) first (first + 9) ⌝ }
+    ensures { λ r. ⌜ (r ≡ number (field (now (rec .entry)) first (first + 9))) × (r < 10 ^ 10) ⌝ }
 {
     let Numeral::Digits(high, low) = word::halves(rec, first, first + 7) else {
         return 0;
     };
-    if !number::digits(rec, first + 8, last) {
+    if !number::digits(rec, first + 8, first + 9) {
         return 0;
     }
-    (high * FOUR_DIGITS + low) * TWO_DIGITS + number::number(rec, first + 8, last)
+    (high * FOUR_DIGITS + low) * TWO_DIGITS + number::number(rec, first + 8, first + 9)
 }
 
 // In cents; nothing where it is not ten digits.
@@ -45,7 +45,7 @@ pub fn amount(rec: &[u8]) -> u64
     requires { ⌜ length (now rec) ≡ 94 ⌝ }
     ensures { λ r. ⌜ (r ≡ amountOf (now (rec .entry))) × (r < 10 ^ 10) ⌝ }
 {
-    cents(rec, 30, 39)
+    cents(rec, 30)
 }
 
 // Of two words that share position 87 the second one's last seven.

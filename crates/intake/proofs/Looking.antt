@@ -14,11 +14,12 @@ use Rattle.watch.specs.Watches.{placeOf, watchAt, watchOn}
 use Rattle.tray.specs.declared.pieces.Known.{Known}
 use Rattle.tray.specs.declared.pieces.Known.the-variants.{Finite, Endless}
 use Rattle.looking.specs.declared.Form.{Form}
-use Rattle.looking.specs.declared.Form.the-variants.{Tray}
+use Rattle.looking.specs.declared.Form.the-variants.{Tray, Company}
 use Rattle.looking.specs.declared.Look.{Look}
 use Rattle.looking.specs.Forms.{widthOf, limitOf, longSaid}
 use Rattle.looking.specs.Looks.{soughtIn, TellsOf, LookBegun}
-use Rattle.looking.proofs.Joined.{sought-on, sought-told, sought-endless}
+use Rattle.looking.proofs.Joined.{sought-none, sought-on, sought-told, sought-endless}
+use Rattle.company.proofs.LongFiles.{long-company}
 use Rattle.demands.proofs.LongTrays.{long-built}
 use Rattle.files.specs.declared.taking.Source.{Source}
 use Rattle.files.specs.declared.taking.Failure.{Failure}
@@ -39,43 +40,46 @@ use Rattle.intake.specs.Looking.{PieceLooked, LookedOn, LookedAt, LongSo
 -- a full buffer is whole records, and more than the job can take
 buffer-whole : (form : Form) → 2508000 % widthOf form ≡ 0
 buffer-whole Tray = refl
+buffer-whole (Company currency) = refl
 
 buffer-long : (form : Form) → limitOf form < 2508000
 buffer-long Tray = omega arith
+buffer-long (Company currency) = omega arith
 
 -- what is said of a long one is what its job answers
 as-said : (form : Form) (body bytes : List ℕ) (a : Answer) → limitOf form < length bytes → said a ≡ longSaid form body bytes → AsDone form body bytes a
 as-said Tray body bytes a long e = λ session before. e ∙ sym (long-built session body bytes before long)
+as-said (Company currency) body bytes a long e = λ before short. e ∙ sym (long-company currency body bytes before long short)
 
 -- ---- pieces
 
 -- a piece is some of the bytes in the buffer
-pub piece-looked : (seen : Look) (before : Source) (buffer : List ℕ) {r : Piece} {after : Source} {n : ℕ} {known : Look} → r ≡ Read after n known
-    → LookedOn seen before buffer r → PieceLooked seen before buffer after n known
-piece-looked seen before buffer e w = subst (LookedOn seen before buffer) e w
+pub piece-looked : (seen : Look) (before : Source) (body buffer : List ℕ) {r : Piece} {after : Source} {n : ℕ} {known : Look} → r ≡ Read after n known
+    → LookedOn seen before body buffer r → PieceLooked seen before body buffer after n known
+piece-looked seen before body buffer e w = subst (LookedOn seen before body buffer) e w
 
 -- before any byte
 pub nothing-looked : (form : Form) (path body : List ℕ) (source : Source) (look : Look) {w : Watch} → JustOpened path source → w ≡ watchOf source
-    → LookBegun form body w look → LookedAt form path body source look []
+    → LookBegun form w look → LookedAt form path body source look []
 nothing-looked form path body source look j e b =
-    record { name = j .name; seen = b .seen; watch = b .watch ∙ ap (λ (x : Watch). watchAt (placeOf x)) e ∙ sym (j .watch); given = handed-none path source j; counted = j .total }
+    record { name = j .name; seen = sought-none form body (soughtIn look) (b .seen); watch = b .watch ∙ ap (λ (x : Watch). watchAt (placeOf x)) e ∙ sym (j .watch); given = handed-none path source j; counted = j .total }
 
 -- it could not be read on
-pub not-looked : (path : List ℕ) (seen : Look) (before : Source) (buffer : List ℕ) {r : Piece} {failure : Failure} → r ≡ piece.Failed failure → LookedOn seen before buffer r
+pub not-looked : (path : List ℕ) (seen : Look) (before : Source) (body buffer : List ℕ) {r : Piece} {failure : Failure} → r ≡ piece.Failed failure → LookedOn seen before body buffer r
     → Watched (nameOf before) path → Watched (nameIn failure) path
-not-looked path seen before buffer e w h = same-name path (subst (LookedOn seen before buffer) e w) h
+not-looked path seen before body buffer e w h = same-name path (subst (LookedOn seen before body buffer) e w) h
 
 -- whole records, and then more of them
 whole-sum : (a b w : ℕ) → a % w ≡ 0 → b % w ≡ 0 → (a + b) % w ≡ 0
 whole-sum a b w h k = add-mod a b w ∙ ap (λ (x : ℕ). (x + b % w) % w) h ∙ ap (λ (x : ℕ). (0 + x) % w) k ∙ zero-mod w
 
-module _ {seen : Look} {before after : Source} {buffer : List ℕ} {n : ℕ} {known : Look} (p : PieceLooked seen before buffer after n known) where
+module _ {seen : Look} {before after : Source} {body buffer : List ℕ} {n : ℕ} {known : Look} (p : PieceLooked seen before body buffer after n known) where
   read-length : length (take n buffer) ≡ n
   read-length = length-take-le n buffer (p .further .fits)
 
-  further : {form : Form} {path body : List ℕ} (bytes : List ℕ) → length bytes % widthOf form ≡ 0 → LookedAt form path body before seen bytes
+  further : {form : Form} {path : List ℕ} (bytes : List ℕ) → length bytes % widthOf form ≡ 0 → LookedAt form path body before seen bytes
       → LookedAt form path body after known (bytes ++ take n buffer)
-  further {form} {path} {body} bytes w l =
+  further {form} {path} bytes w l =
       record {
         name = same-name path (p .further .name) (l .name);
         seen = sought-on form body (soughtIn seen) (soughtIn known) bytes (take n buffer) (l .seen) w (p .looked .seen);
@@ -85,7 +89,7 @@ module _ {seen : Look} {before after : Source} {buffer : List ℕ} {n : ℕ} {kn
       }
 
   -- a further piece, the last or not
-  pub ends : {form : Form} {path body : List ℕ} → LongSoFar form path body before seen → hasEnded after ≡ true → LongToEnd form path body after known
+  pub ends : {form : Form} {path : List ℕ} → LongSoFar form path body before seen → hasEnded after ≡ true → LongToEnd form path body after known
   ends so e =
       record {
         bytes = so .bytes ++ take n buffer;
@@ -102,7 +106,7 @@ module _ {seen : Look} {before after : Source} {buffer : List ℕ} {n : ℕ} {kn
     full-whole : (form : Form) (bytes : List ℕ) → length bytes % widthOf form ≡ 0 → length (bytes ++ take n buffer) % widthOf form ≡ 0
     full-whole form bytes w = rw (length-append bytes (take n buffer), full-length) (whole-sum (length bytes) 2508000 (widthOf form) w (buffer-whole form))
 
-    pub goes-on : {form : Form} {path body : List ℕ} → LongSoFar form path body before seen → LongSoFar form path body after known
+    pub goes-on : {form : Form} {path : List ℕ} → LongSoFar form path body before seen → LongSoFar form path body after known
     goes-on {form} so =
         record {
           bytes = so .bytes ++ take n buffer;
@@ -112,7 +116,7 @@ module _ {seen : Look} {before after : Source} {buffer : List ℕ} {n : ℕ} {kn
         }
 
     -- the first piece of more than the job can take
-    pub is-long : {form : Form} {path body : List ℕ} → LookedAt form path body before seen [] → LongSoFar form path body after known
+    pub is-long : {form : Form} {path : List ℕ} → LookedAt form path body before seen [] → LongSoFar form path body after known
     is-long {form} first =
         record {
           bytes = take n buffer;
@@ -122,7 +126,7 @@ module _ {seen : Look} {before after : Source} {buffer : List ℕ} {n : ℕ} {kn
         }
 
   -- the first piece is all
-  pub is-whole : {form : Form} {path body : List ℕ} → LookedAt form path body before seen [] → hasEnded after ≡ true → WholeIn path buffer n after
+  pub is-whole : {form : Form} {path : List ℕ} → LookedAt form path body before seen [] → hasEnded after ≡ true → WholeIn path buffer n after
   is-whole {form} first e = let l = further [] (zero-mod (widthOf form)) first in record { name = l .name; fits = p .further .fits; given = l .given; ended = e }
 
 -- ---- what is told

@@ -8,10 +8,11 @@ use lib.ListN.{length, take}
 use Rattle.paper.specs.declared.answer.Answer.{Answer}
 use Rattle.paper.specs.Answers.{said}
 use Rattle.paper.specs.Buffers.{building}
+use Rattle.company.specs.Files.{company}
 use Rattle.tray.specs.declared.pieces.Known.{Known}
 use Rattle.tray.specs.declared.pieces.Known.the-variants.{Finite}
 use Rattle.looking.specs.declared.Form.{Form}
-use Rattle.looking.specs.declared.Form.the-variants.{Tray}
+use Rattle.looking.specs.declared.Form.the-variants.{Tray, Company}
 use Rattle.looking.specs.declared.Look.{Look}
 use Rattle.looking.specs.Forms.{widthOf, limitOf}
 use Rattle.looking.specs.Looks.{soughtIn, watchedIn, SeenOf, LookOn}
@@ -29,13 +30,13 @@ use Rattle.intake.specs.declared.long.Took.the-variants as took
 -- ---- pieces
 
 -- the bytes that were handed over into the buffer were looked at, and no others
-pub record PieceLooked (seen : Look) (before : Source) (buffer : List ℕ) (after : Source) (n : ℕ) (known : Look) : Type 0 where
+pub record PieceLooked (seen : Look) (before : Source) (body buffer : List ℕ) (after : Source) (n : ℕ) (known : Look) : Type 0 where
   pub further : ReadFurther before n buffer after
-  pub looked : LookOn seen (take n buffer) known
+  pub looked : LookOn seen body (take n buffer) known
 
-abbrev pub LookedOn : Look → Source → List ℕ → Piece → Type 0
-LookedOn seen before buffer (piece.Read after n known) = PieceLooked seen before buffer after n known
-LookedOn seen before buffer (piece.Failed failure) = nameIn failure ≡ nameOf before
+abbrev pub LookedOn : Look → Source → List ℕ → List ℕ → Piece → Type 0
+LookedOn seen before body buffer (piece.Read after n known) = PieceLooked seen before body buffer after n known
+LookedOn seen before body buffer (piece.Failed failure) = nameIn failure ≡ nameOf before
 
 -- these bytes were looked at: they are what the source handed over since it was opened under this name
 pub record LookedAt (form : Form) (path body : List ℕ) (source : Source) (look : Look) (bytes : List ℕ) : Type 0 where
@@ -72,9 +73,11 @@ pub record WholeIn (path buffer : List ℕ) (n : ℕ) (source : Source) : Type 0
   pub given : HandedOver source (take n buffer)
   pub ended : hasEnded source ≡ true
 
--- the answer is the job's: of a tray, that of building from it, whatever the session and the buffer
+-- the answer is the job's: of a tray, that of building from it, whatever the session and the buffer; of a company's file, that of making its tray in any buffer
+-- of at most 960,000 bytes
 abbrev pub AsDone : Form → List ℕ → List ℕ → Answer → Type 0
 AsDone Tray header tray answer = (s : Session) (before : List ℕ) → said answer ≡ building (rulesOf s) header tray before .answer
+AsDone (Company currency) lo file answer = (before : List ℕ) → length before ≤ 960000 → said answer ≡ company currency lo file before .answer
 
 -- it has an end, and there is an answer
 pub record AnsweredLong (form : Form) (path body : List ℕ) (known : Known) (source : Source) (look : Look) : Type 0 where

@@ -30,16 +30,16 @@ enum Reached {
     Failed(Failure),
 }
 
-fn look_on(seen: Look, source: Source, path: &[u8], buffer: &mut [u8]) -> Piece
-    ensures { λ r. ⌜ LookedOn seen source (now (buffer .exit)) r ⌝ }
+fn look_on(seen: Look, source: Source, path: &[u8], body: &[u8], buffer: &mut [u8]) -> Piece
+    ensures { λ r. ⌜ LookedOn seen source (now (body .entry)) (now (buffer .exit)) r ⌝ }
 {
     match source.fill(path, buffer) {
-        Filled::Bytes(after, n) => Piece::Read(after, n, seen.read(&buffer[..n])),
+        Filled::Bytes(after, n) => Piece::Read(after, n, seen.read(body, &buffer[..n])),
         Filled::Failed(failure) => Piece::Failed(failure),
     }
 }
 
-// To the last piece. Each full one is counted, so the loop ends by what the source may hand over. Form and body are there for the contract alone.
+// To the last piece. Each full one is counted, so the loop ends by what the source may hand over. The form is there for the contract alone.
 fn look_through(
     form: Form,
     begun: Look,
@@ -54,7 +54,7 @@ fn look_through(
     let mut seen = begun;
     let mut before = source;
     loop {
-        match look_on(seen, before, path, input) {
+        match look_on(seen, before, path, body, input) {
             Piece::Read(after, _, known) => {
                 if after.has_ended() {
                     return Reached::End(after, known);
@@ -99,8 +99,8 @@ fn take_from(
     requires { ⌜ JustOpened (now path) source ⌝ }
     ensures { λ r. ⌜ Takes form (now (path .entry)) (now (body .entry)) (now (input .exit)) r ⌝ }
 {
-    let begun = Look::begun(form, body, source.watch());
-    match look_on(begun, source, path, input) {
+    let begun = Look::begun(form, source.watch());
+    match look_on(begun, source, path, body, input) {
         Piece::Read(after, n, known) => {
             if after.has_ended() {
                 after.close();

@@ -1,44 +1,47 @@
 // What no buffer holds, looked at in pieces and watched. Which knowledge is sought goes by its form.
-ghost use mathlib.Core.List.{[]};
-ghost use Rattle.looking.specs.Looks.{SeenOf, SoughtOn, TellsOf, soughtIn, LookBegun, LookOn};
+ghost use Rattle.looking.specs.Looks.{SoughtBegun, SoughtOn, TellsOf, soughtIn, LookBegun, LookOn};
+use paper::rules::Currency;
 use tray::pieces::Known;
-use tray::pieces::Pieces;
 use watch::Watch;
 
-// What is looked at.
+// What is looked at: a tray; or a company's file, in a currency.
 pub enum Form {
     Tray,
+    Company(Currency),
 }
 
-// What is known of it so far. A struct while there is one form: of an enum of one variant no field can be bound.
-pub struct Sought {
-    tray: Pieces,
+// What is known of it so far.
+pub enum Sought {
+    Tray(tray::pieces::Pieces),
+    Company(company::pieces::Pieces),
 }
 
 impl Sought {
-    fn begun(form: Form, body: &[u8]) -> Sought
-        ensures { λ r. ⌜ SeenOf form (now (body .entry)) r [] ⌝ }
+    fn begun(form: Form) -> Sought
+        ensures { λ r. ⌜ SoughtBegun form r ⌝ }
     {
         match form {
-            Form::Tray => Sought {
-                tray: Pieces::begun(),
-            },
+            Form::Tray => Sought::Tray(tray::pieces::Pieces::begun()),
+            Form::Company(currency) => Sought::Company(company::pieces::Pieces::begun(currency)),
         }
     }
 
-    fn read(self, piece: &[u8]) -> Sought
-        ensures { λ r. ⌜ SoughtOn self (now (piece .entry)) r ⌝ }
+    fn read(self, body: &[u8], piece: &[u8]) -> Sought
+        ensures { λ r. ⌜ SoughtOn self (now (body .entry)) (now (piece .entry)) r ⌝ }
     {
-        let tray = self.tray;
-        let after = tray.read(piece);
-        Sought { tray: after }
+        match self {
+            Sought::Tray(known) => Sought::Tray(known.read(piece)),
+            Sought::Company(known) => Sought::Company(known.read(body, piece)),
+        }
     }
 
     fn answer(self, body: &[u8]) -> Known
         ensures { λ r. ⌜ TellsOf self (now (body .entry)) r ⌝ }
     {
-        let tray = self.tray;
-        tray.answer(body)
+        match self {
+            Sought::Tray(known) => known.answer(body),
+            Sought::Company(known) => known.answer(body),
+        }
     }
 }
 
@@ -49,23 +52,23 @@ pub struct Look {
 }
 
 impl Look {
-    // Watched at the same place as another, from its first byte. The body is what the job is handed besides.
-    pub fn begun(form: Form, body: &[u8], watch: Watch) -> Look
-        ensures { λ r. ⌜ LookBegun form (now (body .entry)) watch r ⌝ }
+    // Watched at the same place as another, from its first byte.
+    pub fn begun(form: Form, watch: Watch) -> Look
+        ensures { λ r. ⌜ LookBegun form watch r ⌝ }
     {
         Look {
-            sought: Sought::begun(form, body),
+            sought: Sought::begun(form),
             watch: watch.anew(),
         }
     }
 
-    // The next piece.
-    pub fn read(self, piece: &[u8]) -> Look
-        ensures { λ r. ⌜ LookOn self (now (piece .entry)) r ⌝ }
+    // The next piece. The body is what the job is handed besides: with a tray a header body, with a company's file an LO body.
+    pub fn read(self, body: &[u8], piece: &[u8]) -> Look
+        ensures { λ r. ⌜ LookOn self (now (body .entry)) (now (piece .entry)) r ⌝ }
     {
         let sought = self.sought;
         let watch = self.watch;
-        let after = sought.read(piece);
+        let after = sought.read(body, piece);
         let watched = watch.on(piece);
         Look {
             sought: after,

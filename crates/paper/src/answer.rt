@@ -27,13 +27,13 @@ pub enum Fault {
     Reference,
     // 87: field 9, the information on the transaction
     Information,
-    // 203: entity of the other currency
+    // 203: entity of the other currency, or a company's detail not of the currency
     Currency,
     // 204: entity not on the roster
     Roster,
     // 206: output buffer too short
     Room,
-    // 207: tray or header body malformed, or motive list of another length
+    // 207: tray, header body or LO body malformed, or motive list of another length
     Tray,
     // 208: entity number asked for
     Entity,

@@ -1,14 +1,37 @@
 // Texts and numbers put into a lent buffer.
 ghost use mathlib.Core.Path.{_≡_};
-ghost use Prim.Native.Nat.{_+_, _*_, _^_, _≤_};
-ghost use lib.ListN.{length};
+ghost use Prim.Native.Nat.{_+_, _*_, _^_, _≤_, min};
+ghost use lib.ListN.{length, take, drop};
 ghost use lib.IntN.{natAbs};
 ghost use Rattle.paper.specs.Writing.{spelled, blanks};
 ghost use Rattle.paper.specs.Listing.{width, decimal, signedDecimal};
 ghost use Rattle.writing.specs.Laid.{laid};
 
-// A text over a part of its length.
-pub fn copy(part: &mut [u8], text: &[u8])
+// Eight bytes of a text over those at the same index: loads before stores, so that the compiler makes one of each, whatever it knows of what overlaps.
+fn eight(part: &mut [u8], text: &[u8], at: usize)
+    requires { ⌜ (length (now part) ≡ length (now text)) × (at + 8 ≤ length (now text)) ⌝ }
+    ensures { λ _. ⌜ now (part .exit) ≡ laid at (take 8 (drop at (now (text .entry)))) (now (part .entry)) ⌝ }
+{
+    let a = text[at];
+    let b = text[at + 1];
+    let c = text[at + 2];
+    let d = text[at + 3];
+    let e = text[at + 4];
+    let f = text[at + 5];
+    let g = text[at + 6];
+    let h = text[at + 7];
+    part[at] = a;
+    part[at + 1] = b;
+    part[at + 2] = c;
+    part[at + 3] = d;
+    part[at + 4] = e;
+    part[at + 5] = f;
+    part[at + 6] = g;
+    part[at + 7] = h;
+}
+
+// A text of any length, byte by byte.
+fn bytes(part: &mut [u8], text: &[u8])
     requires { ⌜ length (now part) ≡ length (now text) ⌝ }
     ensures { λ _. ⌜ now (part .exit) ≡ now (text .entry) ⌝ }
 {
@@ -16,6 +39,35 @@ pub fn copy(part: &mut [u8], text: &[u8])
     while i < text.len() {
         part[i] = text[i];
         i += 1;
+    }
+}
+
+fn least(a: usize, b: usize) -> usize
+    ensures { λ r. ⌜ r ≡ min a b ⌝ }
+{
+    if a < b {
+        return a;
+    }
+    b
+}
+
+// A text over a part of its length, by eights; the last eight may share some with those before. Small, so that it becomes part of its callers, which mostly
+// know the length.
+pub fn copy(part: &mut [u8], text: &[u8])
+    requires { ⌜ length (now part) ≡ length (now text) ⌝ }
+    ensures { λ _. ⌜ now (part .exit) ≡ now (text .entry) ⌝ }
+{
+    if text.len() < 8 {
+        bytes(part, text);
+        return;
+    }
+    let last = text.len() - 8;
+    let mut at: usize = 0;
+    let mut done: usize = 0;
+    while done < text.len() {
+        eight(part, text, at);
+        done = at + 8;
+        at = least(done, last);
     }
 }
 

@@ -13,6 +13,7 @@ pub const TRAYS: u64 = 1 << 59;
 pub const STRIPS: u64 = 1 << 58;
 pub const RECEIVED: u64 = 1 << 57;
 pub const SHOWN: u64 = 1 << 56;
+pub const COMPANIES: u64 = 1 << 55;
 
 /// The 57 good characters.
 pub const CHARACTERS: &[u8; 57] = b" !#$%()*+,-./0123456789:;<=>?@ABCDEFGHIJKLMNOPQRSTUVWXYZ_";

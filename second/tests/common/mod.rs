@@ -3,6 +3,7 @@
 // Each test file takes its part of these.
 #![allow(dead_code)]
 
+pub mod companies;
 pub mod extracts;
 pub mod lending;
 pub mod trays;

@@ -1,9 +1,11 @@
-//! `bench`: the programs on the same files, in turn, buffers warm. `bench speed`: the reading alone, also of counters that fall, which must be fast enough.
+//! `bench`: the programs on the same files, in turn, buffers warm. `bench speed`: the reading alone, also of counters that
+//! fall, and company files, which must be fast enough.
 
 use std::process::ExitCode;
 
 mod addressed;
 mod building;
+mod company;
 mod contents;
 mod counters;
 mod country;
@@ -23,7 +25,7 @@ fn main() -> ExitCode {
     let words: Vec<&str> = words.iter().map(String::as_str).collect();
     match words[..] {
         [] => run_all(),
-        ["speed"] if reading::is_fast() & counters::is_fast() => {}
+        ["speed"] if reading::is_fast() & counters::is_fast() & company::is_fast() => {}
         ["speed"] => return ExitCode::FAILURE,
         _ => {
             eprintln!("usage: bench [speed]");
@@ -38,6 +40,7 @@ fn run_all() {
     presenting::run();
     extracting::run();
     building::run();
+    company::run();
     receiving::run();
     worst::run();
     contents::run();

@@ -1,8 +1,10 @@
 //! The jobs that both programs do, one after the other.
 
+mod companies;
 mod counters;
 mod counting;
 mod days;
+mod details;
 mod extracts;
 mod fields;
 mod form;
@@ -25,12 +27,12 @@ mod writing;
 use running::run;
 
 /// Each part says its numbers; the first difference, or the first part that shows too little, ends the run.
-pub fn run_all(seed: u64, cases: [u64; 8]) -> bool {
-    let [files, days, listings, extracts, trays, strips, received, shown] = cases;
+pub fn run_all(seed: u64, cases: [u64; 9]) -> bool {
+    let [files, days, listings, extracts, trays, strips, received, shown, companies] = cases;
     // Said first, so that a run that breaks off can be made again.
     println!(
         "seed {seed}, {files} files, {days} days, {listings} listings, {extracts} extracts, \
-         {trays} trays, {strips} strips, {received} received, {shown} shown"
+         {trays} trays, {strips} strips, {received} received, {shown} shown, {companies} companies"
     );
     run(seed, files, least::FILES)
         && run(seed, days, least::DAYS)
@@ -40,4 +42,5 @@ pub fn run_all(seed: u64, cases: [u64; 8]) -> bool {
         && run(seed, strips, least::STRIPS)
         && run(seed, received, least::RECEIVED)
         && run(seed, shown, least::SHOWN)
+        && run(seed, companies, least::COMPANIES)
 }

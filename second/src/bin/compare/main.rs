@@ -1,4 +1,4 @@
-//! `compare SEED FILES DAYS LISTINGS EXTRACTS TRAYS STRIPS RECEIVED SHOWN`: both programs on generated input, until they differ.
+//! `compare SEED FILES DAYS LISTINGS EXTRACTS TRAYS STRIPS RECEIVED SHOWN COMPANIES`: both programs on generated input, until they differ.
 
 use std::process::ExitCode;
 
@@ -8,9 +8,9 @@ fn main() -> ExitCode {
     let arguments = std::env::args().skip(1).map(|argument| argument.parse());
     let arguments: Result<Vec<u64>, _> = arguments.collect();
     match arguments.as_deref() {
-        Ok(&[seed, files, days, listings, extracts, trays, strips, received, shown]) => {
+        Ok(&[seed, files, days, listings, extracts, trays, strips, received, shown, companies]) => {
             let cases = [
-                files, days, listings, extracts, trays, strips, received, shown,
+                files, days, listings, extracts, trays, strips, received, shown, companies,
             ];
             if jobs::run_all(seed, cases) {
                 ExitCode::SUCCESS
@@ -20,7 +20,7 @@ fn main() -> ExitCode {
         }
         _ => {
             eprintln!(
-                "usage: compare SEED FILES DAYS LISTINGS EXTRACTS TRAYS STRIPS RECEIVED SHOWN"
+                "usage: compare SEED FILES DAYS LISTINGS EXTRACTS TRAYS STRIPS RECEIVED SHOWN COMPANIES"
             );
             ExitCode::from(2)
         }

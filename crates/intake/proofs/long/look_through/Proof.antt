@@ -22,11 +22,11 @@ loop-holds : tie.Need-loop-holds Inv-loop μ-loop
 loop-holds c = λ form so. so
 
 -- the buffer is an array of so many bytes
-held : (c : tie.After-look-on Inv-loop μ-loop) → length (c .look-on .last .1 .1 .1 .0) ≡ 2508000
+held : (c : tie.After-look-on Inv-loop μ-loop) → length (c .look-on .last .1 .1 .1 .1 .0) ≡ 2508000
 held c =
     let turn : tie.At-loop Inv-loop μ-loop = search in
     let lent : length (turn .loop .input) ≡ 2508000 = search needs in
-    c .look-on .kept .1 .1 .1 .0 ∙ lent
+    c .look-on .kept .1 .1 .1 .1 .0 ∙ lent
 
 returns : tie.Need-returns Inv-loop μ-loop
 returns c =
@@ -36,14 +36,14 @@ returns c =
     let turn : tie.At-loop Inv-loop μ-loop = search in
     let start : tie.Start Inv-loop μ-loop = search in
     let so = turn .loop .inv (start .args .form) (start .pre) in
-    ends (piece-looked _ _ _ (piece .after .given .1) (looked .look-on .ensures)) so (sym (asked .has-ended .ensures) ∙ c .if1 .taken)
+    ends (piece-looked _ _ _ _ (piece .after .given .1) (looked .look-on .ensures)) so (sym (asked .has-ended .ensures) ∙ c .if1 .taken)
 
 loop-less : tie.Need-loop-less Inv-loop μ-loop
 loop-less c =
     let asked : tie.After-has-ended Inv-loop μ-loop = search in
     let piece : tie.After-after Inv-loop μ-loop = search in
     let looked : tie.After-look-on Inv-loop μ-loop = search in
-    nearer _ _ _ _ (piece-looked _ _ _ (piece .after .given .1) (looked .look-on .ensures) .further) (sym (asked .has-ended .ensures) ∙ c .if1 .left)
+    nearer _ _ _ _ (piece-looked _ _ _ _ (piece .after .given .1) (looked .look-on .ensures) .further) (sym (asked .has-ended .ensures) ∙ c .if1 .left)
     (omega (arith, held looked))
 
 loop-again : tie.Need-loop-again Inv-loop μ-loop
@@ -53,7 +53,7 @@ loop-again c =
     let looked : tie.After-look-on Inv-loop μ-loop = search in
     let turn : tie.At-loop Inv-loop μ-loop = search in
     λ form so.
-    goes-on (piece-looked _ _ _ (piece .after .given .1) (looked .look-on .ensures)) (sym (asked .has-ended .ensures) ∙ c .if1 .left) (held looked)
+    goes-on (piece-looked _ _ _ _ (piece .after .given .1) (looked .look-on .ensures)) (sym (asked .has-ended .ensures) ∙ c .if1 .left) (held looked)
     (turn .loop .inv form so)
 
 returns-2 : tie.Need-returns-2 Inv-loop μ-loop
@@ -63,7 +63,7 @@ returns-2 c =
     let turn : tie.At-loop Inv-loop μ-loop = search in
     let start : tie.Start Inv-loop μ-loop = search in
     let so = turn .loop .inv (start .args .form) (start .pre) in
-    not-looked _ _ _ _ (failed .failure .given .1) (looked .look-on .ensures) (so .looked .name)
+    not-looked _ _ _ _ _ (failed .failure .given .1) (looked .look-on .ensures) (so .looked .name)
 
 pub look-through-spec : {M : Type 1} → statement M
 look-through-spec =

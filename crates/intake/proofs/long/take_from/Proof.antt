@@ -6,11 +6,11 @@ use Rattle.intake.proofs.long.take_from.Statement.{statement}
 use Rattle.intake.proofs.long.take_from.Tie as tie
 
 -- the buffer is an array of so many bytes
-held : (c : tie.After-look-on) → length (c .look-on .last .1 .1 .1 .0) ≡ 2508000
+held : (c : tie.After-look-on) → length (c .look-on .last .1 .1 .1 .1 .0) ≡ 2508000
 held c =
     let start : tie.Start = search in
     let lent : length (start .args .input .now) ≡ 2508000 = search needs in
-    c .look-on .kept .1 .1 .1 .0 ∙ lent
+    c .look-on .kept .1 .1 .1 .1 .0 ∙ lent
 
 returns : tie.Need-returns
 returns c =
@@ -21,7 +21,7 @@ returns c =
     let begun : tie.After-begun = search in
     let watched : tie.After-watch = search in
     let start : tie.Start = search in
-    is-whole (piece-looked _ _ _ (piece .after .given .1) (looked .look-on .ensures)) (nothing-looked (start .args .form) _ _ _ _ (start .pre) (watched .watch .ensures) (begun .begun .ensures))
+    is-whole (piece-looked _ _ _ _ (piece .after .given .1) (looked .look-on .ensures)) (nothing-looked (start .args .form) _ _ _ _ (start .pre) (watched .watch .ensures) (begun .begun .ensures))
     (sym (asked .has-ended .ensures) ∙ ended .if1 .taken)
 
 answered-requires : tie.Need-answered-requires
@@ -33,7 +33,7 @@ answered-requires c κs =
     let begun : tie.After-begun = search in
     let watched : tie.After-watch = search in
     let start : tie.Start = search in
-    is-long (piece-looked _ _ _ (piece .after .given .1) (looked .look-on .ensures)) (sym (asked .has-ended .ensures) ∙ goes .if1 .left) (held looked)
+    is-long (piece-looked _ _ _ _ (piece .after .given .1) (looked .look-on .ensures)) (sym (asked .has-ended .ensures) ∙ goes .if1 .left) (held looked)
     (nothing-looked (start .args .form) _ _ _ _ (start .pre) (watched .watch .ensures) (begun .begun .ensures))
 
 returns-2 : tie.Need-returns-2
@@ -47,7 +47,7 @@ returns-3 c =
     let failed : tie.After-failure = search in
     let looked : tie.After-look-on = search in
     let start : tie.Start = search in
-    not-looked _ _ _ _ (failed .failure .given .1) (looked .look-on .ensures) (start .pre .name)
+    not-looked _ _ _ _ _ (failed .failure .given .1) (looked .look-on .ensures) (start .pre .name)
 
 pub take-from-spec : {M : Type 1} → statement M
 take-from-spec =

@@ -1,22 +1,12 @@
-use mathlib.Core.List.{List, []}
-use Prim.Native.Nat.{ℕ}
 use borrow.Author.Needs.{needs}
-use Rattle.tray.specs.Seen.{Seen}
-use Rattle.looking.specs.declared.Form.{Form}
-use Rattle.looking.specs.declared.Form.the-variants.{Tray}
-use Rattle.looking.specs.declared.Sought.{Sought}
-use Rattle.looking.specs.Looks.{SeenOf}
 use Rattle.looking.proofs.Sought.begun.Statement.{statement}
 use Rattle.looking.proofs.Sought.begun.Tie as tie
 
--- no tag is tested where there is one form
-of-tray : (form : Form) (body : List ℕ) (s : Sought) → Seen (s .tray) [] → SeenOf form body s []
-of-tray Tray body s seen = seen
-
 returns : tie.Need-returns
-returns c =
-    let start : tie.Start = search in
-    of-tray (start .args .form) _ _ (c .begun .ensures)
+returns c = let at : tie.After-enum-told = search in rw (at .enum-told .given .1) (c .begun .ensures)
+
+returns-2 : tie.Need-returns-2
+returns-2 c = let at : tie.After-form = search in rw (at .form .given .1) (c .begun2 .ensures)
 
 pub begun-spec : {M : Type 1} → statement M
-begun-spec = tie.close (tie.spec (λ c κs. search needs) returns)
+begun-spec = tie.close (tie.spec (λ c. search needs) (λ c κs. search needs) (λ c. search needs) (λ c κs. search needs) returns returns-2)

@@ -7,27 +7,16 @@ use Rattle.typed.proofs.call.asked_for.Tie as tie
 returns : tie.Need-returns
 unfolding askedFor
 returns c =
-    let yes-1 : tie.Then1 = search in
+    let yes : tie.Then1 = search in
     let asked : tie.After-is = search in
-    rw (c .asked-in .ensures, sym (asked .is .ensures) ∙ yes-1 .if1 .taken)
+    rw (c .asked-to-make .ensures, sym (asked .is .ensures) ∙ yes .if1 .taken)
 
 returns-2 : tie.Need-returns-2
 unfolding askedFor
 returns-2 c =
-    let yes-2 : tie.Then2 = search in
-    let asked-2 : tie.After-is2 = search in
-    let no-1 : tie.Else1 = search in
+    let no : tie.Else1 = search in
     let asked : tie.After-is = search in
-    rw (c .asked-in2 .ensures, sym (asked .is .ensures) ∙ no-1 .if1 .left, sym (asked-2 .is2 .ensures) ∙ yes-2 .if2 .taken)
-
-returns-3 : tie.Need-returns-3
-unfolding askedFor
-returns-3 c =
-    let no-2 : tie.Else2 = search in
-    let asked-2 : tie.After-is2 = search in
-    let no-1 : tie.Else1 = search in
-    let asked : tie.After-is = search in
-    rw (c .asked-of-extract .ensures, sym (asked .is .ensures) ∙ no-1 .if1 .left, sym (asked-2 .is2 .ensures) ∙ no-2 .if2 .left)
+    rw (c .asked-in-session .ensures, sym (asked .is .ensures) ∙ no .if1 .left)
 
 pub asked-for-spec : {M : Type 1} → statement M
 asked-for-spec =
@@ -35,7 +24,5 @@ asked-for-spec =
     (tie.spec
     (λ c. search needs) (λ c κs. search needs) (λ c. search needs) (λ c κs. search needs)
     returns
-    (λ c. search needs) (λ c κs. search needs) (λ c κs. search needs)
-    returns-2
     (λ c κs. search needs)
-    returns-3)
+    returns-2)

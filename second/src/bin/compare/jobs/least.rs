@@ -2,11 +2,14 @@
 
 use super::counters::{begin_again, fall, fall_far_apart, Refused};
 use super::counting::Rows::{self, *};
+use super::details::{due_of, BLOCK_1, BLOCK_2, CLIENT, CURRENCY, DUE, ENTITY, FORMAT, IN_CLIENT, IN_REFERENCE, KIND, REFERENCE};
+use super::details::{self, SUM, TOTAL, WITHOUT_MONEY, WITH_MONEY};
 use super::fields::{several, total, AMOUNT, BRANCH, DESTINATION, SENDER};
 use super::form::{bad_tail, bad_type, is_odd, keeps_letter, mixes_kinds, mixes_letters, stray_at, stray_byte};
 use super::job::Seen;
 use super::received::{DESK, ORIGIN};
-use second::fields::entity;
+use second::fields::{all_blank, all_digits, entity, is_character};
+use second::generate::company::CompanyCase;
 use second::generate::day::DayCase;
 use second::generate::extract::ExtractCase;
 use second::generate::listing::ListingCase;
@@ -500,4 +503,154 @@ pub const SHOWN: &[Rows<ShowCase>] = &[
     ]),
     // What the generator has made.
     Named(&[("rejections", 12_000), ("extract", 2_600), ("one fault", 960), ("house file", 230), ("10,000 records", 6)]),
+];
+
+pub const COMPANIES: &[Rows<CompanyCase>] = &[
+    Named(&[
+        ("companies", 40_000), ("accepted", 7_600), ("accepted in pesos", 3_700), ("accepted in dollars", 3_700),
+        ("accepted into exactly its length", 4_500), ("accepted with one byte over", 1_000), ("accepted with much over", 480),
+        ("refused 201", 1_200), ("refused 207", 1_200), ("refused 17", 15_000), ("refused 203", 1_900), ("refused 19", 750), ("refused 75", 2_900),
+        ("refused 206", 2_400), ("206 with no byte lent", 180), ("206 with one byte lent", 120), ("206 with 95 bytes lent", 250),
+        ("206 with one byte missing", 1_000), ("206 with one tray record missing", 500),
+    ]),
+    Cases(Seen::accepted, &[
+        ("a closing record alone", 740, |seen| seen.details() == 0),
+        ("10 to 99 details", 710, |seen| (10..100).contains(&seen.details())),
+        ("one detail", 810, |seen| seen.details() == 1),
+        ("100 details and more", 92, |seen| seen.details() >= 100),
+        ("1000 details and more", 1, |seen| seen.details() >= 1_000),
+        ("10000 details and more", 3, |seen| seen.details() >= 10_000),
+        ("more than 65535 details", 1, |seen| seen.details() > 65_535),
+        ("sums beyond 32 bits", 2_200, |seen| seen.sum() > u64::from(u32::MAX)),
+        ("the largest sum", 320, |seen| seen.sum() == TEN_DIGITS),
+        ("due on 29 February", 2_000, |seen| seen.is_due(b"2902")),
+        ("due in 2000", 1_300, |seen| seen.is_due(b"2000")),
+        ("due in 2099", 710, |seen| seen.is_due(b"2099")),
+        ("LO bodies with bytes of any kind", 960, |seen| seen.lo().iter().any(|&byte| !is_character(byte))),
+        ("LO bodies of no date", 35, |seen| due_of(seen.lo()).is_none()),
+        ("counter prefixes of any kind", 620, |seen| entity(&seen.lo()[79..87]).is_none()),
+    ]),
+    Records(Seen::accepted_details, &[
+        ("details for entity 1", 22_000, |detail| detail[33..36] == *b"001"),
+        ("details for entity 499", 22_000, |detail| detail[33..36] == *b"499"),
+        ("details whose field 7 is not 000", 40_000, |detail| detail[41..44] != *b"000"),
+        ("details with a second due date and amount", 8_000, |detail| all_digits(&detail[115..133]) && detail[123..133] != [b'0'; 10]),
+        ("details with bytes of any kind", 10_000, |detail| detail.iter().any(|&byte| !is_character(byte))),
+        ("references that begin with a blank", 72_000, |detail| detail[88] == b' '),
+        ("references that end with a blank", 72_000, |detail| detail[102] == b' '),
+        ("clients that begin with a blank", 73_000, |detail| detail[58] == b' '),
+        ("clients that end with a blank", 73_000, |detail| detail[79] == b' '),
+        ("amounts of one cent", 35_000, |detail| detail[103..113] == *b"0000000001"),
+        ("amounts of 9999999999", 100, |detail| detail[103..113] == [b'9'; 10]),
+    ]),
+    // Details: each part wrong alone, two parts wrong, and what comes before what.
+    Cases(|seen| seen.wrong().count_ones() == 1, &[
+        ("17 for the type", 640, |seen| seen.is_also(KIND)),
+        ("17 for block 1", 640, |seen| seen.is_also(BLOCK_1)),
+        ("17 for block 2", 760, |seen| seen.is_also(BLOCK_2)),
+        ("17 for the entity", 450, |seen| seen.is_also(ENTITY)),
+        ("17 for the reference", 1_600, |seen| seen.is_also(REFERENCE)),
+        ("17 for the client", 1_700, |seen| seen.is_also(CLIENT)),
+        ("203 alone", 1_700, |seen| seen.is_also(CURRENCY)),
+        ("19 alone", 680, |seen| seen.is_also(details::AMOUNT)),
+        ("75 alone", 2_900, |seen| seen.is_also(DUE)),
+    ]),
+    Cases(|seen| seen.wrong() & FORMAT != 0, &[
+        ("17 before 203", 1_300, |seen| seen.is_also(CURRENCY)),
+        ("17 before 19", 860, |seen| seen.is_also(details::AMOUNT)),
+        ("17 before 75", 1_500, |seen| seen.is_also(DUE)),
+    ]),
+    Cases(|seen| seen.refused(203), &[
+        ("203 for the other currency", 1_300, Seen::is_of_other_currency),
+        ("203 before 19", 12, |seen| seen.is_also(details::AMOUNT)),
+        ("203 before 75", 37, |seen| seen.is_also(DUE)),
+    ]),
+    Cases(|seen| seen.refused(19), &[("19 before 75", 33, |seen| seen.is_also(DUE))]),
+    Cases(|seen| seen.wrong() != 0, &[
+        ("refused at the first detail of several", 6_200, |seen| seen.place() == 0 && seen.details() > 1),
+        ("refused at the last detail of several", 4_500, |seen| seen.place() > 0 && seen.place() + 1 == seen.details()),
+        ("refused at place 16 to 63", 380, |seen| (16..64).contains(&seen.place())),
+        ("refused at place 64 to 255", 200, |seen| (64..256).contains(&seen.place())),
+        ("refused at place 256 and more", 28, |seen| seen.place() >= 256),
+        ("refused beyond place 65535", 1, |seen| seen.place() > 65_535),
+        ("a detail and the closing record", 2_500, |seen| seen.not_closed() != 0),
+        ("a detail and too small a buffer", 3_700, Seen::is_short),
+        ("refused for a T amid the details", 630, |seen| seen.refused_detail().is_some_and(|detail| detail[0] == b'T')),
+        ("blank references", 1_300, |seen| seen.refused_detail().is_some_and(|detail| all_blank(&detail[IN_REFERENCE]))),
+        ("blank clients", 1_300, |seen| seen.refused_detail().is_some_and(|detail| all_blank(&detail[IN_CLIENT]))),
+    ]),
+    Records(|seen| seen.refused_detail().into_iter().collect(), &[
+        ("entity 000", 180, |detail| detail[33..36] == *b"000"),
+        ("entity 500", 180, |detail| detail[33..36] == *b"500"),
+        ("entity 999", 75, |detail| detail[33..36] == *b"999"),
+        ("amount zero", 120, |detail| detail[103..113] == [b'0'; 10]),
+        ("amount blank", 5, |detail| detail[103..113] == [b' '; 10]),
+        ("amount with a sign", 61, |detail| matches!(detail[103], b'+' | b'-')),
+    ]),
+    Different(&[
+        ("pairs of parts wrong in one detail", 35, Seen::pair),
+        ("positions of block 1", 8, Seen::stray_in_block_1),
+        ("positions of block 2", 14, Seen::stray_in_block_2),
+        ("positions of the client", 22, Seen::stray_in_client),
+        ("positions of the reference", 15, Seen::stray_in_reference),
+        ("positions of the amount", 10, Seen::stray_in_amount),
+        ("bytes that are no characters", 199, Seen::stray_byte),
+        ("positions of the LO body's tail", 7, |seen| seen.stray_in_tail().filter(|_| seen.refused(207))),
+        ("lengths left over", 250, |seen| Some(seen.file_bytes() % 250).filter(|_| seen.refused(201))),
+    ]),
+    Cases(|seen| seen.refused(75), &[
+        ("75 for 19 before the year", 46, |seen| seen.is_due_in(b"19")),
+        ("75 for 21 before the year", 54, |seen| seen.is_due_in(b"21")),
+        ("75 for 29 February of no leap year", 440, |seen| seen.wrong_due().is_some_and(|due| due.starts_with(b"2902"))),
+        ("75 for an LO body of no date", 920, |seen| due_of(seen.lo()).is_none()),
+        ("75 for month 13", 15, |seen| seen.wrong_due().is_some_and(|due| due[2..4] == *b"13")),
+        ("75 for day 00", 220, |seen| seen.wrong_due().is_some_and(|due| due[..2] == *b"00")),
+    ]),
+    // The closing record: each part wrong alone.
+    Cases(|seen| seen.wrong_closing() != 0, &[
+        ("17 at the last for its type", 430, |seen| seen.wrong_closing() == KIND),
+        ("17 at the last for field 2", 940, |seen| seen.wrong_closing() == TOTAL),
+        ("17 at the last for field 3", 680, |seen| seen.wrong_closing() == WITH_MONEY),
+        ("17 at the last for fields 2 and 3", 390, |seen| seen.wrong_closing() == TOTAL | WITH_MONEY),
+        ("17 at the last for field 4", 540, |seen| seen.wrong_closing() == WITHOUT_MONEY),
+        ("17 at the last for field 7", 1_300, |seen| seen.wrong_closing() == SUM),
+        ("17 at the last for a D", 610, |seen| seen.records()[seen.details()][0] == b'D'),
+        ("17 at the last, alone", 1_200, |seen| seen.details() == 0),
+        ("17 at the last and too small a buffer", 1_300, Seen::is_short),
+        ("sums of eleven digits, the last ten held", 230, |seen| seen.holds_last_ten()),
+    ]),
+    Cases(|seen| seen.refused(201), &[
+        ("201 for no byte", 50, |seen| seen.file_bytes() == 0),
+        ("201 for one byte", 1, |seen| seen.file_bytes() == 1),
+        ("201 for 249 bytes", 1, |seen| seen.file_bytes() == 249),
+        ("201 for 251 bytes", 1, |seen| seen.file_bytes() == 251),
+        ("201 with line feeds", 54, |seen| seen.file_bytes() > 250 && seen.case.input.file[250] == b'\n'),
+        ("201 and 207", 290, Seen::has_no_lo),
+    ]),
+    Cases(|seen| seen.refused(207), &[
+        ("207 for an LO body of 0 bytes", 12, |seen| seen.lo().is_empty()),
+        ("207 for an LO body of 93 bytes", 57, |seen| seen.lo().len() == 93),
+        ("207 for an LO body of 95 bytes", 56, |seen| seen.lo().len() == 95),
+        ("207 for an LO body that begins with 6", 290, |seen| seen.lo().first() == Some(&b'6')),
+        ("207 and the closing record", 330, |seen| seen.not_closed() != 0),
+        ("207 and too small a buffer", 290, Seen::is_short),
+    ]),
+    // What both programs have said to building the trays.
+    Cases(Seen::accepted, &[
+        ("trays that build", 5_900, Seen::is_to_build),
+        ("trays that build to 10000 records", 1, |seen| seen.is_to_build() && seen.details() == 9_996),
+        ("trays too long to be built", 7, |seen| seen.details() > 9_996),
+    ]),
+    // What the generator has made.
+    Named(&[
+        ("good", 5_100), ("byte of a detail", 2_500), ("byte of the closing record", 1_200), ("one fault", 2_500), ("two faults in one record", 2_500),
+        ("faults in two records", 1_200), ("fault and closing record", 1_200), ("closing record's type", 340), ("closing record's numbers", 580),
+        ("closing record's counts", 310), ("closing record padded", 300), ("closing record's digits", 310), ("closing record shifted", 250),
+        ("closing record's widths", 290), ("closing record alone", 1_200), ("largest sum", 280), ("eleven digits", 550), ("ten digits", 370), ("length", 1_200),
+        ("LO body's length", 640), ("LO body's type", 290), ("LO body's tail", 290), ("odd LO body", 1_200), ("LO body of no date", 1_200),
+        ("T amid the details", 130), ("no T", 140), ("two T", 350), ("T and D exchanged", 150), ("all of another kind", 140),
+        ("detail lost or doubled", 130), ("random bytes", 400), ("bytes changed", 850), ("other currency", 1_200), ("due date", 1_200), ("byte of a text", 1_200),
+        ("large", 8), ("large with a fault at the end", 2), ("large, not closed", 1), ("large, of thirteen digits", 1),
+    ]),
+    Largest("bytes of the largest file", |seen| seen.file_bytes() as u64),
 ];

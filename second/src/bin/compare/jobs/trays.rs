@@ -27,7 +27,10 @@ impl Writing for Building {
             return Err(format!("the reading was to say {known:?}"));
         }
         match left.answer {
-            Ok(length) => strips_to_its_tray(case, &left.buffer[..length]),
+            Ok(length) => {
+                let file = &left.buffer[..length];
+                strips_to_its_tray(&case.opening, &case.rules, &case.input.tray, file)
+            }
             Err(_) => Ok(()),
         }
     }
