@@ -1,4 +1,5 @@
 // The counter: the desk's jobs from a shell. Here is reading, calling and writing; what is answered and printed is proved in the crates below.
+#![tactic(auto)]
 ghost use Rattle.std.specs.Prelude.{◌^◌, ◌<◌};
 
 use desk::Session;

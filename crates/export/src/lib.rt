@@ -1,4 +1,5 @@
 // The library for programs in Rust and C: functions on numbers and byte slices.
+#![tactic(auto)]
 ghost use Rattle.std.specs.Prelude.{◌≡◌, List, ℕ, min};
 ghost use Rattle.paper.specs.Answers.{said, number_of};
 ghost use Rattle.paper.specs.Buffers.{told};

@@ -1,4 +1,5 @@
 // Files by name, for the programs, read into lent buffers. What cannot be opened or read is named on standard error.
+#![tactic(auto)]
 pub mod ending;
 pub mod saying;
 pub mod standard;

@@ -1,4 +1,5 @@
 // Where a job's bytes go. They are written beside OUT first and take its place whole, so that no failure leaves half a file under its name.
+#![tactic(auto)]
 ghost use Rattle.std.specs.Prelude.{◌+◌, ◌≤◌, length};
 ghost use Rattle.handing.specs.Handed.{AllOf};
 

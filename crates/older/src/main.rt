@@ -1,5 +1,6 @@
 // Asks a source for its first bytes twice, the second time from a copy that is older than what was handed over, and prints what comes. A file hands them over
 // again; a pipe must not hand over others.
+#![tactic(auto)]
 use files::taking;
 use files::taking::{Filled, Readable, Source};
 use libc::STDOUT_FILENO;

@@ -89,6 +89,7 @@ within_of low high n l h = go (leb low n) (le→leb low n l)
   where
     go : (b : Bool) → T b → T (b && leb n high)
     go true t = le→leb n high h
+    go false t = elim t [ ]
 
 prepended_listed : (rules : Rules) (k : Kind) (r : List ℕ) (g : Groups) → Facts rules k r → AllListed rules g.items × AllListed rules (items_in g.batches)
     → AllListed rules (prepended k r g).items × AllListed rules (items_in (prepended k r g).batches)

@@ -1,4 +1,5 @@
 // Prints the positions that the file on standard input makes, or why it is refused.
+#![tactic(auto)]
 use files::ending::Ended;
 use files::taking::Taken;
 use files::{ending, standard};
