@@ -4,10 +4,10 @@ use Rattle.characters.proofs.Scan.{Tested, test_turn, test_end}
 use Rattle.characters.proofs.number.all_digits.Statement.{statement}
 use Rattle.characters.proofs.number.all_digits.Tie as tie
 
-abbrev invariant_loop : tie.invariant-loop
+abbrev invariant_loop : tie.invariant_loop
 invariant_loop s good₀ i₀ tested i = Tested digit s tested i
 
-abbrev decreases_loop : tie.decreases-loop
+abbrev decreases_loop : tie.decreases_loop
 decreases_loop s good₀ i₀ tested i = length s - i
 
 loop_again : tie.Need-loop-preserved invariant_loop decreases_loop

@@ -3,16 +3,16 @@ use Rattle.characters.proofs.Value.{Read, read_turn, read_end, small, grown}
 use Rattle.characters.proofs.number.low_value.Statement.{statement}
 use Rattle.characters.proofs.number.low_value.Tie as tie
 
-abbrev invariant_loop : tie.invariant-loop
+abbrev invariant_loop : tie.invariant_loop
 invariant_loop s sum₀ i₀ sum i = (i ≤ length s) × (sum + 2 ≤ 2 * 10 ^ i) × Read s sum i
 
-abbrev decreases_loop : tie.decreases-loop
+abbrev decreases_loop : tie.decreases_loop
 decreases_loop s sum₀ i₀ sum i = length s - i
 
-mul_sum : tie.Need-overflow-mul-sum invariant_loop decreases_loop
+mul_sum : tie.Need-overflow_mul-sum invariant_loop decreases_loop
 mul_sum c = omega (arith, small c.before.loop.i c.before.loop.sum (omega arith) c.before.loop.invariant.1)
 
-add_sum : tie.Need-overflow-add-sum invariant_loop decreases_loop
+add_sum : tie.Need-overflow_add-sum invariant_loop decreases_loop
 add_sum c =
     let l = c.before.before.loop in omega (arith, small l.i l.sum (omega arith) l.invariant.1)
 

@@ -3,10 +3,10 @@ use Rattle.characters.proofs.Scan.{Tested, test_turn, test_end}
 use Rattle.characters.proofs.text.all_blank.Statement.{statement}
 use Rattle.characters.proofs.text.all_blank.Tie as tie
 
-abbrev invariant_loop : tie.invariant-loop
+abbrev invariant_loop : tie.invariant_loop
 invariant_loop s blank₀ i₀ blank i = Tested (eqb 32) s blank i
 
-abbrev decreases_loop : tie.decreases-loop
+abbrev decreases_loop : tie.decreases_loop
 decreases_loop s blank₀ i₀ blank i = length s - i
 
 loop_again : tie.Need-loop-preserved invariant_loop decreases_loop

@@ -3,10 +3,10 @@ use Rattle.characters.proofs.Scan.{Compared, compare_turn, compare_end, other_le
 use Rattle.characters.proofs.text.equal.Statement.{statement}
 use Rattle.characters.proofs.text.equal.Tie as tie
 
-abbrev invariant_loop : tie.invariant-loop
+abbrev invariant_loop : tie.invariant_loop
 invariant_loop a b alike₀ i₀ alike i = Compared a b alike i
 
-abbrev decreases_loop : tie.decreases-loop
+abbrev decreases_loop : tie.decreases_loop
 decreases_loop a b alike₀ i₀ alike i = length a - i
 
 returns : tie.Need-returns invariant_loop decreases_loop

@@ -7,7 +7,7 @@ returns : tie.Need-returns
 returns c =
     let front : tie.After-digits = search in
     let start : tie.Start = search in
-    in_two _ _ _ start.pre.0 start.pre.1.0 start.pre.1.1 front.digits.ensures c.digits2.ensures
+    in_two _ _ _ start.requires.0 start.requires.1.0 start.requires.1.1 front.digits.ensures c.digits-2.ensures
 
 pub wide_digits_spec : {M : Type 1} → statement M
 wide_digits_spec = tie.close (tie.spec (λ c. search rules) (λ c κs. search rules) (λ c. search rules) (λ c κs. search rules) returns)
