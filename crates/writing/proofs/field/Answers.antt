@@ -1,0 +1,10 @@
+use Rattle.std.proofs.Common.{rules}
+use Rattle.paper.specs.Writing.{spelled}
+use Rattle.paper.proofs.Lists.{length_spelled}
+use Rattle.writing.proofs.Laying.{part_filled}
+use Rattle.writing.proofs.field.Goals as goal
+
+pub returns : goal.returns
+returns c =
+    let a = c.args in
+    part_filled (λ w. spelled w a.n) (λ w. length_spelled w a.n) a.at a.width c.digits.last.0 a.out-1.now c.requires c.digits.ensures
