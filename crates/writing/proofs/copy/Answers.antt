@@ -25,13 +25,13 @@ loop-done-preserved c =
     let r = reach (goal.at.loop-done-preserved c).In-loop-done in (
       c.least-at.ensures,
       omega (arith, r),
-      c.eight.kept.0 ∙ c.loop-done.invariant.2,
-      c.eight.ensures ∙ ap (laid at (take 8 (drop at text))) c.loop-done.invariant.3 ∙ eight_further text c.args.part-1.now at c.loop-done.done c.requires r.0 (omega (arith, r)) r.2,
+      c.eight.auto.part ∙ c.loop-done.invariant.2,
+      c.eight.ensures ∙ ap (laid at (take 8 (drop at text))) c.loop-done.invariant.3 ∙ eight_further text c.args.part.now at c.loop-done.done c.requires r.0 (omega (arith, r)) r.2,
     )
 
 pub returns : goal.returns
 returns c =
-    c.loop-done.invariant.3 ∙ all_copied c.args.text.now c.args.part-1.now c.loop-done.done c.requires c.loop-done-test.false
+    c.loop-done.invariant.3 ∙ all_copied c.args.text.now c.args.part.now c.loop-done.done c.requires c.loop-done-test.false
 
 pub loop-done-init : goal.loop-done-init
 loop-done-init c = (omega arith, omega arith, refl, refl)

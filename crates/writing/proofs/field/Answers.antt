@@ -7,4 +7,4 @@ use Rattle.writing.proofs.field.Goals as goal
 pub returns : goal.returns
 returns c =
     let a = c.args in
-    part_filled (λ w. spelled w a.n) (λ w. length_spelled w a.n) a.at a.width c.digits.last.0 a.out-1.now c.requires c.digits.ensures
+    part_filled (λ w. spelled w a.n) (λ w. length_spelled w a.n) a.at a.width c.digits.new.part a.out.now c.requires c.digits.ensures

@@ -14,4 +14,4 @@ unfolding decimal
 returns c =
     let a = c.args in
     rw (← c.width.ensures.0)
-    (part_filled (λ w. spelled w a.n) (λ w. length_spelled w a.n) a.at c.width.result c.digits.last.0 a.out-1.now (omega (arith, length_decimal a.n)) c.digits.ensures)
+    (part_filled (λ w. spelled w a.n) (λ w. length_spelled w a.n) a.at c.width.result c.digits.new.part a.out.now (omega (arith, length_decimal a.n)) c.digits.ensures)

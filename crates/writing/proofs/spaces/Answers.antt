@@ -6,4 +6,4 @@ use Rattle.writing.proofs.spaces.Goals as goal
 
 pub returns : goal.returns
 returns c =
-    part_filled blanks length_blanks c.args.at c.args.width c.blanks.last.0 c.args.out-1.now c.requires c.blanks.ensures
+    part_filled blanks length_blanks c.args.at c.args.width c.blanks.new.part c.args.out.now c.requires c.blanks.ensures

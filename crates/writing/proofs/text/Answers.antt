@@ -5,4 +5,4 @@ use Rattle.writing.proofs.text.Goals as goal
 pub returns : goal.returns
 returns c =
     let a = c.args in
-    (refl, rw c.copy.ensures (part_laid a.at (a.at + length a.text.now) a.text.now a.out-1.now refl))
+    (refl, rw c.copy.ensures (part_laid a.at (a.at + length a.text.now) a.text.now a.out.now refl))

@@ -5,18 +5,18 @@ use Rattle.characters.proofs.Eights.{first_small, last_small}
 use Rattle.characters.proofs.Words.{told_digits, told_other}
 use Rattle.field.proofs.Words.{eight_long, cents_told, cents_first, cents_last}
 use Rattle.field.proofs.individual.cents.Goals as goal
-use Rattle.field.proofs.individual.cents.Goals.{After-number, In-Digits-2}
+use Rattle.field.proofs.individual.cents.Goals.{After-number, In-Digits}
 
 pub returns-in_default : goal.returns-in_default
 returns-in_default c =
     (cents_first _ _ c.requires (told_other _ (sym c.halves.ensures ∙ c.in_default.is)), lit< tt)
 
 -- the first eight are digits
-abbrev eight : (c : In-Digits-2) → let f = field c.args.rec.now c.args.first (c.args.first + 7) in
+abbrev eight : (c : In-Digits) → let f = field c.args.rec.now c.args.first (c.args.first + 7) in
     (digits f ≡ true) × (value (take 4 f) ≡ c.in-Digits.high) × (value (drop 4 f) ≡ c.in-Digits.low)
 eight c = told_digits _ (sym c.halves.ensures ∙ c.in-Digits.is)
 
-small : (c : In-Digits-2) → (c.in-Digits.high < 10000) × (c.in-Digits.low < 10000)
+small : (c : In-Digits) → (c.in-Digits.high < 10000) × (c.in-Digits.low < 10000)
 small c =
     let f = field c.args.rec.now c.args.first (c.args.first + 7) in
     let l : length f ≡ 8 = eight_long _ _ c.requires in
@@ -35,21 +35,21 @@ pair c =
 
 pub returns : goal.returns
 returns c =
-    let t = eight (goal.at.returns c).In-Digits-2 in
-    let s = small (goal.at.returns c).In-Digits-2 in (
+    let t = eight (goal.at.returns c).In-Digits in
+    let s = small (goal.at.returns c).In-Digits in (
       rw (c.number.ensures.0, ← t.1, ← t.2)
           (cents_told _ _ c.requires t.0 (sym c.digits.ensures ∙ c.if-not-digits.false)),
       omega (arith, pair c),
     )
 
 pub overflow_mul-result : goal.overflow_mul-result
-overflow_mul-result c = omega (arith, small (search))
+overflow_mul-result c = omega (arith, small (goal.at.overflow_mul-result c).In-Digits)
 
 pub overflow_add-result : goal.overflow_add-result
-overflow_add-result c = omega (arith, small (search))
+overflow_add-result c = omega (arith, small (goal.at.overflow_add-result c).In-Digits)
 
 pub overflow_mul-result-2 : goal.overflow_mul-result-2
-overflow_mul-result-2 c = omega (arith, small (search))
+overflow_mul-result-2 c = omega (arith, small (goal.at.overflow_mul-result-2 c).In-Digits)
 
 pub overflow_add-result-2 : goal.overflow_add-result-2
-overflow_add-result-2 c = omega (arith, small (search), pair c)
+overflow_add-result-2 c = omega (arith, small (goal.at.overflow_add-result-2 c).In-Digits, pair c)

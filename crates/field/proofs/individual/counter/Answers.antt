@@ -6,7 +6,7 @@ use Rattle.characters.proofs.Eights.{last_small}
 use Rattle.characters.proofs.Words.{told_digits, told_other}
 use Rattle.field.proofs.Words.{sequence_told, sequence_first, sequence_last}
 use Rattle.field.proofs.individual.counter.Goals as goal
-use Rattle.field.proofs.individual.counter.Goals.{In-Digits-2}
+use Rattle.field.proofs.individual.counter.Goals.{In-Digits}
 
 pub returns-then-not-digits : goal.returns-then-not-digits
 returns-then-not-digits c =
@@ -17,11 +17,11 @@ returns-in_default c =
     sequence_last _ c.requires (told_other _ (sym c.halves.ensures ∙ c.in_default.is))
 
 -- the last eight are digits
-abbrev eight : (c : In-Digits-2) → let f = field c.args.rec.now 87 94 in
+abbrev eight : (c : In-Digits) → let f = field c.args.rec.now 87 94 in
     (digits f ≡ true) × (value (take 4 f) ≡ c.in-Digits.high) × (value (drop 4 f) ≡ c.in-Digits.low)
 eight c = told_digits _ (sym c.halves.ensures ∙ c.in-Digits.is)
 
-small : (c : In-Digits-2) → c.in-Digits.low < 10000
+small : (c : In-Digits) → c.in-Digits.low < 10000
 small c =
     let f = field c.args.rec.now 87 94 in
     let t = eight c in
@@ -29,9 +29,9 @@ small c =
 
 pub returns : goal.returns
 returns c =
-    let t = eight (goal.at.returns c).In-Digits-2 in
+    let t = eight c in
     rw (← t.1, ← t.2)
     (sequence_told _ c.requires (sym c.digits.ensures ∙ c.if-not-digits.false) t.0)
 
 pub overflow_add-result : goal.overflow_add-result
-overflow_add-result c = omega (arith, small (search))
+overflow_add-result c = omega (arith, small c)

@@ -25,20 +25,20 @@ is c =
 
 pub returns-in_default : goal.returns-in_default
 returns-in_default c =
-    unknown (get_or c.args.rec.now 2 0) (omega (arith, c.in-55.rest)) ∙ is (search)
+    unknown (get_or c.args.rec.now 2 0) (omega arith) ∙ is (goal.at.returns-in_default c).Else-rec-ne51
 
 pub returns-in-55 : goal.returns-in-55
 unfolding code_in
-returns-in-55 c = rw c.in-55.is at (is (search))
+returns-in-55 c = rw c.in-55.is at (is (goal.at.returns-in-55 c).Else-rec-ne51)
 
 pub returns-in-54 : goal.returns-in-54
 unfolding code_in
-returns-in-54 c = rw c.in-54.is at (is (search))
+returns-in-54 c = rw c.in-54.is at (is (goal.at.returns-in-54 c).Else-rec-ne51)
 
 pub returns-in-50 : goal.returns-in-50
 unfolding code_in
-returns-in-50 c = rw c.in-50.is at (is (search))
+returns-in-50 c = rw c.in-50.is at (is (goal.at.returns-in-50 c).Else-rec-ne51)
 
 pub returns-in-49 : goal.returns-in-49
 unfolding code_in
-returns-in-49 c = rw c.in-49.is at (is (search))
+returns-in-49 c = rw c.in-49.is at (is (goal.at.returns-in-49 c).Else-rec-ne51)

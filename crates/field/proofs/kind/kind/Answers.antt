@@ -18,7 +18,7 @@ other b h =
 
 pub returns-in_default : goal.returns-in_default
 unfolding kind_of
-returns-in_default c = other _ (omega (arith, c.in-49.rest))
+returns-in_default c = other _ (omega arith)
 
 pub returns-in-49 : goal.returns-in-49
 unfolding kind kind_of
