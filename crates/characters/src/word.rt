@@ -28,7 +28,7 @@ const THREE_BYTES: u64 = 0x100_0000;
 const THREE_ZEROS: u64 = 0x30_3030;
 
 // Eight digits: the numbers of the first four and of the last four. Or something else.
-#[derive(Drop)]
+#[derive(Clone, Copy)]
 pub enum Numeral {
     Digits(u64, u64),
     Other,

@@ -17,7 +17,7 @@ const THREE_DIGITS: u64 = 1000;
 const FOUR_DIGITS: u64 = 10000;
 
 // Positions 80 to 94: the number in the last seven, where all fifteen are digits.
-#[derive(Drop)]
+#[derive(Clone, Copy)]
 pub enum Sequence {
     Number(u64),
     Other,

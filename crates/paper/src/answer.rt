@@ -4,7 +4,7 @@ ghost use Rattle.paper.specs.Answers.{number_of, said, and_then};
 ghost use Rattle.paper.specs.Buffers.{told};
 
 // A reason to refuse, in the order of the paper's table.
-#[derive(Drop)]
+#[derive(Clone, Copy)]
 pub enum Fault {
     // 201: length of the file
     Length,
@@ -43,14 +43,14 @@ pub enum Fault {
 }
 
 // Acceptance, or a refusal with the place of the record it stands at.
-#[derive(Drop)]
+#[derive(Clone, Copy)]
 pub enum Answer {
     Accepted,
     Refused(Fault, usize),
 }
 
 // The same of a job that writes into a lent buffer: acceptance says how many bytes were written.
-#[derive(Drop)]
+#[derive(Clone, Copy)]
 pub enum Output {
     Accepted(usize),
     Refused(Fault, usize),

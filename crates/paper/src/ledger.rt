@@ -1,5 +1,5 @@
 // What a session holds for each entity: its signed position in cents, and the individual records that it sent and received.
-#[derive(Drop)]
+#[derive(Clone, Copy)]
 pub struct Cell {
     pub position: i64,
     pub sent: u64,

@@ -1,7 +1,7 @@
 // What a record is, and what stood before it.
 
 // The type that a record begins with.
-#[derive(Drop)]
+#[derive(Clone, Copy)]
 pub enum Kind {
     // 1
     FileHeader,
@@ -20,7 +20,7 @@ pub enum Kind {
 }
 
 // The transaction code of an individual record, by its name in the sources.
-#[derive(Drop)]
+#[derive(Clone, Copy)]
 pub enum Code {
     // 37: an order to debit; with "01" in 77-78 a receiver's reversal
     Order,
@@ -35,7 +35,7 @@ pub enum Code {
 }
 
 // What stands before a record.
-#[derive(Drop)]
+#[derive(Clone, Copy)]
 pub enum Before {
     // nothing: it is the first
     Nothing,
@@ -52,7 +52,7 @@ pub enum Before {
 }
 
 // What the controls count.
-#[derive(Drop)]
+#[derive(Clone, Copy)]
 pub struct Tally {
     // types 6 and 7
     pub records: u64,

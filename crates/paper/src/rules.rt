@@ -1,5 +1,5 @@
 // What a session is opened with.
-#[derive(Drop)]
+#[derive(Clone, Copy)]
 pub enum Currency {
     Pesos,
     Dollars,
@@ -17,7 +17,7 @@ impl Currency {
 }
 
 // The date AAMMDD as the number its digits spell, the currency, and for each entity number whether it is on the roster.
-#[derive(Drop)]
+#[derive(Clone, Copy)]
 pub struct Rules {
     pub date: u64,
     pub currency: Currency,
@@ -30,14 +30,14 @@ impl Rules {
 }
 
 // Who reads a file: the house, or a member's desk, with its entity, what was handed out to it.
-#[derive(Drop)]
+#[derive(Clone, Copy)]
 pub enum Reader {
     House,
     Desk(u64),
 }
 
 // What a reading goes by, but for the roster, which is lent beside it.
-#[derive(Drop)]
+#[derive(Clone, Copy)]
 pub struct Terms {
     pub date: u64,
     pub currency: Currency,
