@@ -96,6 +96,6 @@ record_below Other t r l b = below_more t (omega arith) b
 
 pub tallied_below : {n : ℕ} (t : Tally) (rs : List (List ℕ)) → Sized 94 rs → Below n t → Below (n + length rs * 10 ^ 10) (tallied t rs)
 unfolding tallied
-tallied_below t [] z b = below_more t (omega arith) b
-tallied_below t (r ∷ rs) z b =
-    below_more (tallied (with_record (kind_of r) t r) rs) (omega arith) (tallied_below (with_record (kind_of r) t r) rs z.1 (record_below (kind_of r) t r z.0 b))
+tallied_below {n = n} t [] z b = below_more t (omega arith) b
+tallied_below {n = n} t (r ∷ rs) z b =
+    below_more (tallied (with_record (kind_of r) t r) rs) (omega arith) (tallied_below {n = n + 10 ^ 10} (with_record (kind_of r) t r) rs z.1 (record_below (kind_of r) t r z.0 b))

@@ -1,0 +1,34 @@
+use Rattle.std.proofs.Common.{arith, rules, ◌∙◌}
+use Rattle.paper.specs.Fields.{bytes}
+use Rattle.paper.specs.Controls.{blocks}
+use Rattle.paper.specs.Writing.{spelled, blanks}
+use Rattle.batches.specs.Sums.{sums_of}
+use Rattle.writing.proofs.Laying.{start, on, filled}
+use Rattle.batches.proofs.Controls.{total_parts}
+use Rattle.batches.proofs.records.file_control.Goals as goal
+
+pub field-records-requires : goal.field-records-requires
+unfolding spelled
+field-records-requires c = omega arith
+
+pub field-totals-requires : goal.field-totals-requires
+unfolding spelled
+field-totals-requires c = omega arith
+
+pub sums-free-requires : goal.sums-free-requires
+unfolding spelled
+sums-free-requires c = omega arith
+
+pub spaces-requires : goal.spaces-requires
+unfolding spelled
+spaces-requires c = omega arith
+
+pub returns : goal.returns
+unfolding spelled blanks
+returns c =
+    let a = c.args in
+    let class = on (start (omega arith)) (bytes "9") c.text-count.ensures in
+    let number = on class (spelled 6 a.batches) c.field-tens.ensures in
+    let block = on number (spelled 6 (blocks a.all)) (rw c.blocks-2.ensures at c.field-records.ensures) in
+    let total = on (on block (spelled 8 a.tally.records) c.field-totals.ensures) (sums_of a.tally) c.sums-free.ensures in
+    filled (on total (blanks 39) c.spaces.ensures) (omega arith) ∙ total_parts a.all a.batches a.tally
