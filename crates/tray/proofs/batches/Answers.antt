@@ -2,6 +2,7 @@ use Rattle.std.proofs.Common.{ap, arith, cond, rules, ⊎_elim, ◌+◌, ◌-◌
 use Rattle.paper.specs.Kinds.{opens_batch, kind_of}
 use Rattle.tray.proofs.Passing.{none_counted, one_counted, all_counted}
 use Rattle.tray.proofs.batches.Goals as goal
+use Rattle.tray.proofs.batches.Goals.{then-opens, else-opens}
 
 pub overflow_add-count : goal.overflow_add-count
 overflow_add-count c = omega (arith, c.loop-place.invariant.1.fewer)
@@ -10,7 +11,7 @@ pub loop-place-preserved : goal.loop-place-preserved
 loop-place-preserved c =
     let e = c.opens.ensures ∙ ap (λ b. opens_batch (kind_of b)) c.body_at.ensures.0 in
     let n : c.if-opens.count ≡ cond c.opens.result (c.loop-place.count + 1) c.loop-place.count =
-    ⊎_elim (λ w. rw w.0.taken w.1) (λ w. rw w.0.left w.1) c.if-opens.branch in
+    elim c.if-opens.branch [ then-opens w ↦ rw w.if-opens.true w.count-is | else-opens w ↦ rw w.if-opens.false w.count-is ] in
     (omega arith, one_counted _ c.loop-place.invariant.1 c.loop-place-test.true e n)
 
 pub returns : goal.returns

@@ -7,4 +7,4 @@ pub returns : goal.returns
 returns c =
     let r = c.record_at-rec.result.now in
     let joined : take 2 r ++ take 94 (drop 2 r) ≡ r = ap (λ (b : List ℕ). take 2 r ++ b) (body_behind r c.record_at-rec.ensures.1) ∙ take-append-drop 2 r in
-    c.good2.ensures ∙ ap tray_record_good (joined ∙ c.record_at-rec.ensures.0)
+    c.good.ensures ∙ ap tray_record_good (joined ∙ c.record_at-rec.ensures.0)

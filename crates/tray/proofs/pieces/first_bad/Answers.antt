@@ -4,6 +4,7 @@ use Rattle.paper.specs.Trays.{tray_records}
 use Rattle.tray.proofs.Places.{length_records}
 use Rattle.tray.proofs.ByPieces.{later, fault_later, fault_within}
 use Rattle.tray.proofs.pieces.first_bad.Goals as goal
+use Rattle.tray.proofs.pieces.first_bad.Goals.{in-Accepted, in-Refused}
 
 pub overflow_add-found : goal.overflow_add-found
 overflow_add-found c =
@@ -14,7 +15,7 @@ overflow_add-found c =
 pub returns : goal.returns
 returns c =
     let a = c.args in
-    let found : said c.in-Accepted.found ≡ later a.records (said c.fault.result) =
-    ⊎_elim (λ w. rw (w.2, w.1.given.1) refl) (λ w. rw (w.3, w.1.given.1) refl) c.in-Accepted.came in
+    let found : said c.match-fault.found ≡ later a.records (said c.fault.result) =
+    elim c.match-fault.branch [ in-Accepted w ↦ rw (w.found-is, w.in-Accepted.is) refl | in-Refused w ↦ rw (w.found-is, w.in-Refused.is) refl ] in
     let counted = sym (fault_later (tray_records a.piece.now) a.records) in
-    c.and_then.ensures ∙ ap (and_then (said a)) (found ∙ ap (later a.records) c.fault.ensures ∙ counted)
+    c.and_then.ensures ∙ ap (and_then (said a.before)) (found ∙ ap (later a.records) c.fault.ensures ∙ counted)
