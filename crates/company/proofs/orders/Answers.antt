@@ -11,10 +11,10 @@ pub loop-place-init : goal.loop-place-init
 unfolding joined
 loop-place-init c = (omega arith, start (omega arith))
 
-long : (l : At-loop-place) → length l.loop-place.dst ≡ length c.args.dst.now
-long l =
+long : (c : At-loop-place) → length c.loop-place.dst ≡ length c.args.dst.now
+long c =
     let a = c.args in
-    as_long a.currency a.lo.now a.file.now a.details l.loop-place.place l.loop-place.invariant.1 (omega (arith, l.loop-place.invariant.0, c.requires.2))
+    as_long a.currency a.lo.now a.file.now a.details c.loop-place.place c.loop-place.invariant.1 (omega (arith, c.loop-place.invariant.0, c.requires.2))
 
 pub slice_bounds-write-end : goal.slice_bounds-write-end
 slice_bounds-write-end c =

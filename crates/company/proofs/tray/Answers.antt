@@ -20,7 +20,8 @@ returns-in_default c =
 
 accepted_here : (c : In-Accepted) → let a = c.args in
     and_then (company_answer a.currency a.lo.now a.file.now) (room_for (company_tray a.currency a.lo.now a.file.now) a.out.now) ≡ accepted
-accepted_here c = sym (answers c) ∙ ap said c.in-Accepted.is
+accepted_here c = sym ((let a = c.args in
+    with_room a.currency a.lo.now a.file.now a.out.now c.answer-judged.ensures c.room.ensures c.and_then-answer.ensures)) ∙ ap said c.in-Accepted.is
 
 -- and there is room
 room_here : (c : In-Accepted) → let a = c.args in

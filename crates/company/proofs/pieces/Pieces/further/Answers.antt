@@ -21,8 +21,8 @@ returns c =
     ∙ and_then_assoc (said p.going) (said c.judge-inner.result.faults) (said c.judge-end.result.faults) in
     record {
       money = refl;
-      (goal.at.returns c).After-and_then-all = all ∙ ap (and_then (said p.going)) found;
-      c = c.kept_if.ensures ∙ counts_so (said c.and_then-all.result) (λ e.
+      going = all ∙ ap (and_then (said p.going)) found;
+      sum = c.kept_if.ensures ∙ counts_so (said c.and_then-all.result) (λ e.
           let t = both_accept (said p.going) (and_then (said c.judge-inner.result.faults) (said c.judge-end.result.faults)) (sym all ∙ e) in
           let u = both_accept (said c.judge-inner.result.faults) (said c.judge-end.result.faults) t.1 in
           all_added a.piece.now h p.currency a.lo.now p.records p.sum (c.judge-inner.ensures.1 u.0) (last.1 u.1));
@@ -34,4 +34,4 @@ returns c =
     }
 
 pub overflow_add-result : goal.overflow_add-result
-overflow_add-result c = omega (arith, c.requires.2, c.good)
+overflow_add-result c = omega (arith, c.requires.2)
