@@ -1,6 +1,6 @@
 -- The loop that looks for a number that stood before, in pages: what is known at each place.
 use Prim.Native.Nat.{ℕ, ◌+◌, ◌-◌, ◌*◌, ◌/◌, ◌%◌, ◌≤◌, ◌<◌}
-use mathlib.Core.Bool.{Bool, true, false, ◌||◌}
+use mathlib.Core.Bool.{true, false, ◌||◌}
 use mathlib.Core.List.{List}
 use mathlib.Core.Path.{◌≡◌, refl, ◌∙◌}
 use native.Mathlib.Nat.{div-lt_iff_lt-mul, div-le_self, mod-lt, mul-le-mul, mul-le-mul_right, le_trans, lt_of_lt_of_le}

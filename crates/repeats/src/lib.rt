@@ -1,5 +1,6 @@
 // Whether the number of an individual record stands before it in the file.
 #![tactic(auto)]
+
 ghost use Rattle.std.specs.Prelude.{◌≡◌, ◌/◌, ◌*◌, ◌+◌, ◌≤◌, ◌<◌, length};
 ghost use Rattle.repeats.specs.Pages.{RoomFor};
 ghost use Rattle.repeats.specs.Numbers.{repeated, FirstFrom, FreshTo, Looked};

@@ -1,4 +1,4 @@
-use Rattle.std.proofs.Common.{arith, lit<, lit≤, rules}
+use Rattle.std.proofs.Common.{arith, lit<, lit≤}
 use Rattle.repeats.proofs.Pages.{room}
 use Rattle.repeats.proofs.in_larger.Goals as goal
 

@@ -1,4 +1,3 @@
-use Rattle.std.proofs.Common.{rules}
 use Rattle.repeats.proofs.Set.{tested}
 use Rattle.repeats.proofs.bits.has.Goals as goal
 
