@@ -14,7 +14,7 @@ use paper::record::Tally;
 use tray::Tray;
 
 // Records up to the next batch header: how many, what a control counts of them, and the numbering after them.
-#[derive(Drop)]
+#[derive(Clone, Copy)]
 pub struct Run {
     pub records: usize,
     pub tally: Tally,

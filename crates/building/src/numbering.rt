@@ -9,7 +9,7 @@ use field::kind;
 use paper::record::Kind;
 
 // How many were numbered.
-#[derive(Drop)]
+#[derive(Clone, Copy)]
 pub struct Numbering {
     pub batches: u64,
     pub individuals: u64,

@@ -21,7 +21,7 @@ mod detail;
 mod order;
 pub mod pieces;
 
-#[derive(Drop)]
+#[derive(Clone, Copy)]
 pub struct Company {}
 
 impl Company {
@@ -48,7 +48,7 @@ fn lo_good(lo: &[u8]) -> bool
 }
 
 // The first fault of some details; where there is none, their sum with what was added up before them, as a field of ten digits can tell it.
-#[derive(Drop)]
+#[derive(Clone, Copy)]
 struct Found {
     faults: Answer,
     sum: u64,

@@ -12,7 +12,7 @@ use tray::pieces;
 use tray::pieces::Known;
 
 // What is known after some pieces.
-#[derive(Drop)]
+#[derive(Clone, Copy)]
 pub struct Pieces {
     currency: Currency,
     // the first fault of all records, each judged as a detail

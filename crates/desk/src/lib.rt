@@ -17,7 +17,7 @@ mod member;
 mod roster;
 pub mod rules;
 
-#[derive(Drop)]
+#[derive(Clone, Copy)]
 pub struct Session {
     date: u64,
     currency: Currency,
@@ -30,7 +30,7 @@ pub struct Session {
 }
 
 // The session that a job hands back, with its answer.
-#[derive(Drop)]
+#[derive(Clone, Copy)]
 pub struct Reply {
     pub answer: Answer,
     pub session: Session,

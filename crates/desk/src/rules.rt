@@ -13,7 +13,7 @@ use paper::answer::{Answer, Fault};
 use paper::rules::{Currency, Rules};
 
 // The rules of the session that an opening returns, with its answer.
-#[derive(Drop)]
+#[derive(Clone, Copy)]
 pub struct Opened {
     pub answer: Answer,
     pub rules: Rules,

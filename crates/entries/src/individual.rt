@@ -16,7 +16,7 @@ use paper::rules::{Currency, Reader, Rules, Terms};
 use verdicts::verdict::Verdict;
 
 // The numbers of an individual record.
-#[derive(Drop)]
+#[derive(Clone, Copy)]
 pub struct Entry {
     pub code: Code,
     // its field 4-11, and its amount
@@ -37,14 +37,14 @@ impl Entry {
 }
 
 // A record without fault with its numbers, each of them read once, or its first fault.
-#[derive(Drop)]
+#[derive(Clone, Copy)]
 pub enum Judged {
     Good(Entry),
     Wrong(Fault),
 }
 
 // The same of positions 2 to 54: field 4-11 and the amount.
-#[derive(Drop)]
+#[derive(Clone, Copy)]
 enum Moved {
     Good(u64, u64),
     Wrong(Fault),

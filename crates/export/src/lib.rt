@@ -22,7 +22,7 @@ pub mod tray;
 
 // An answer in the paper's numbers: 0 and the number of records, or the refusal number and its place.
 #[repr(C)]
-#[derive(Drop)]
+#[derive(Clone, Copy)]
 pub struct Spoken {
     pub number: u64,
     pub place: u64,
@@ -34,7 +34,7 @@ impl Spoken {
 }
 
 // Figure f of entity e stands at index f * 500 + e: a later figure is appended, and no index moves.
-#[derive(Drop)]
+#[derive(Clone, Copy)]
 pub struct Figure;
 
 impl Figure {

@@ -12,7 +12,7 @@ use reasons::Shown;
 // Where the text of a reason stands. Accepted: 0, the bytes of the text, its source, and the byte of that where it begins. Refused: the
 // refusal number and its place, then 0 and 0.
 #[repr(C)]
-#[derive(Drop)]
+#[derive(Clone, Copy)]
 pub struct SpokenText {
     pub number: u64,
     pub place: u64,

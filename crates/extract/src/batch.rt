@@ -12,7 +12,7 @@ use field::place::Record;
 use paper::record::Tally;
 
 // How many records it has of its own, and what its control counts.
-#[derive(Drop)]
+#[derive(Clone, Copy)]
 pub struct Batch {
     pub records: usize,
     pub tally: Tally,

@@ -16,7 +16,7 @@ pub mod reason;
 mod shown;
 
 // What a listing can be at most.
-#[derive(Drop)]
+#[derive(Clone, Copy)]
 pub struct Listing;
 
 impl Listing {

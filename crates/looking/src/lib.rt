@@ -7,14 +7,14 @@ use tray::pieces::Known;
 use watch::Watch;
 
 // What is looked at: a tray; or a company's file, in a currency.
-#[derive(Drop)]
+#[derive(Clone, Copy)]
 pub enum Form {
     Tray,
     Company(Currency),
 }
 
 // What is known of it so far.
-#[derive(Drop)]
+#[derive(Clone, Copy)]
 pub enum Sought {
     Tray(tray::pieces::Pieces),
     Company(company::pieces::Pieces),
@@ -50,7 +50,7 @@ impl Sought {
 }
 
 // Bytes, as far as they were looked at. Only this room can make or change one, so that all of it was looked at that was watched.
-#[derive(Drop)]
+#[derive(Clone, Copy)]
 pub struct Look {
     sought: Sought,
     watch: Watch,

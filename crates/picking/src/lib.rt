@@ -11,7 +11,7 @@ use field::{individual, kind, place};
 use paper::record::Kind;
 
 // How many records go, and how many of them are batch headers.
-#[derive(Drop)]
+#[derive(Clone, Copy)]
 pub struct Picked {
     pub count: usize,
     pub batches: usize,
@@ -23,7 +23,7 @@ impl Picked {
 }
 
 // A batch header waits, put down after those that go, until a record of its batch goes.
-#[derive(Drop)]
+#[derive(Clone, Copy)]
 pub struct Picking {
     pub count: usize,
     // after what waits

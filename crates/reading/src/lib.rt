@@ -26,14 +26,14 @@ use verdicts::verdict::Verdict;
 const BLOCK: usize = 16 * Record::LENGTH;
 
 // Acceptance with the number of records, or a refusal with the place of the record it stands at.
-#[derive(Drop)]
+#[derive(Clone, Copy)]
 pub enum Reading {
     Accepted(usize),
     Refused(Fault, usize),
 }
 
 // How far a run of records went without fault, and what the next one finds before it. Or the fault that ended it, and where.
-#[derive(Drop)]
+#[derive(Clone, Copy)]
 enum Run {
     Reached(usize, State),
     Stopped(Fault, usize),

@@ -13,7 +13,7 @@ use paper::answer::{Answer, Fault};
 use paper::record::Kind;
 
 // Acceptance says at which byte of the file, or of the motive list, the text begins; or a refusal with its place.
-#[derive(Drop)]
+#[derive(Clone, Copy)]
 pub enum Shown {
     File(usize),
     Motives(usize),

@@ -9,7 +9,7 @@ use paper::answer::{Fault, Output};
 use paper::record::Kind;
 
 // What is handed out to one entity.
-#[derive(Drop)]
+#[derive(Clone, Copy)]
 pub enum Part {
     // no batch of the file holds a record to it
     Nothing,

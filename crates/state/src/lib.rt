@@ -20,7 +20,7 @@ pub mod individual;
 mod numbers;
 
 // Records are held by their places in the file.
-#[derive(Drop)]
+#[derive(Clone, Copy)]
 pub struct State {
     pub before: Before,
     // the last batch's header
@@ -41,7 +41,7 @@ pub struct State {
 }
 
 // One record further, or a fault in it.
-#[derive(Drop)]
+#[derive(Clone, Copy)]
 pub enum Step {
     Next(State),
     Stop(Fault),

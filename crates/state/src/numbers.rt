@@ -8,7 +8,7 @@ ghost use Rattle.repeats.specs.Numbers.{numbers_before, FreshTo};
 ghost use Rattle.state.specs.States.{NumberSays};
 
 // It is, and so are those up to a place; or it stood before.
-#[derive(Drop)]
+#[derive(Clone, Copy)]
 pub enum Number {
     New(usize),
     Repeated,

@@ -15,7 +15,7 @@ use paper::record::Kind;
 
 pub mod pieces;
 
-#[derive(Drop)]
+#[derive(Clone, Copy)]
 pub struct Tray {}
 
 impl Tray {

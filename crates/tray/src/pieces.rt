@@ -9,7 +9,7 @@ use field::place::Record;
 use paper::answer::{Answer, Fault};
 
 // What is known after some pieces.
-#[derive(Drop)]
+#[derive(Clone, Copy)]
 pub struct Pieces {
     // 207 at the first bad record
     faults: Answer,
@@ -20,7 +20,7 @@ pub struct Pieces {
 }
 
 // What can be told of a tray after all its pieces.
-#[derive(Drop)]
+#[derive(Clone, Copy)]
 pub enum Known {
     Finite(Answer),
     Endless,

@@ -5,7 +5,7 @@ ghost use Rattle.typed.specs.Asking.{money_typed, asked_in, asked_to_make, asked
 use crate::words;
 use paper::rules::Currency;
 
-#[derive(Drop)]
+#[derive(Clone, Copy)]
 pub enum Job {
     Read,
     Present,
@@ -19,7 +19,7 @@ pub enum Job {
 }
 
 // A job to be done in a session of a currency; or a company's file to be made into a tray; or nothing that there is.
-#[derive(Drop)]
+#[derive(Clone, Copy)]
 pub enum Asked {
     To(Job, Currency),
     Company(Currency),
@@ -27,7 +27,7 @@ pub enum Asked {
 }
 
 // What a word for a currency says.
-#[derive(Drop)]
+#[derive(Clone, Copy)]
 enum Money {
     In(Currency),
     Unknown,
@@ -35,7 +35,7 @@ enum Money {
 
 // Which word stands where. The program's own name is at 0. The launcher puts three before what was typed: where it listens, how a file is named while it is
 // written, and the modes of the files that may be replaced.
-#[derive(Drop)]
+#[derive(Clone, Copy)]
 pub struct Word;
 
 impl Word {

@@ -10,7 +10,7 @@ use desk::Session;
 use watch::Watch;
 
 // Where reading has come to among the words.
-#[derive(Drop)]
+#[derive(Clone, Copy)]
 pub struct Progress {
     // whether a word is being read
     word: bool,
@@ -22,7 +22,7 @@ pub struct Progress {
 }
 
 // What is known after part of the text.
-#[derive(Drop)]
+#[derive(Clone, Copy)]
 pub struct Roster {
     // the numbers listed; at 0, whether one was listed that is no entity's
     listed: [bool; Session::ROSTER],
@@ -32,14 +32,14 @@ pub struct Roster {
 }
 
 // A word that is no entity's number: its place, and how many bytes of it are told.
-#[derive(Drop)]
+#[derive(Clone, Copy)]
 pub enum Which {
     Word(u64, usize),
     Nothing,
 }
 
 // The same, with these bytes in front.
-#[derive(Drop)]
+#[derive(Clone, Copy)]
 pub struct Wrong {
     pub word: Which,
     pub bytes: [u8; Roster::SHOWN],
@@ -252,7 +252,7 @@ impl Roster {
 }
 
 // A text that lists a roster, as far as it was read. Only this room can make or change one, so that all of it was read that was watched.
-#[derive(Drop)]
+#[derive(Clone, Copy)]
 pub struct Text {
     roster: Roster,
     watch: Watch,

@@ -6,7 +6,7 @@ ghost use Rattle.verdicts.specs.Verdicts.{check_of};
 
 use paper::answer::Fault;
 
-#[derive(Drop)]
+#[derive(Clone, Copy)]
 pub enum Verdict {
     Right,
     Wrong(Fault),

@@ -3,7 +3,7 @@
 ghost use Rattle.std.specs.Prelude.{◌≡◌};
 ghost use Rattle.watch.specs.Watches.{place_of, watch_at, watch_on};
 
-#[derive(Drop)]
+#[derive(Clone, Copy)]
 pub struct Watch {
     // the place, from 0
     place: u64,
