@@ -1,0 +1,5 @@
+use Rattle.std.proofs.Common.{rules}
+use Rattle.desk.proofs.Session.read.Goals as goal
+
+pub returns : goal.returns
+returns c = c.read.ensures
