@@ -16,7 +16,7 @@ program : (c : After-present-reply) → let reply = c.present-reply.result in
     printed (said reply.answer) (standing reply.session).cells ≡ positions_of c.args.input.now
 program c =
     let input = c.args.input.now in
-    let o = c.«open» in
+    let o = c.open-opened in
     let e : heard o.result ≡ opening (date_in input) (currency_in input) (numbers_to 499) =
     rw (c.currency.ensures, c.date.ensures, c.everybody-everybody.ensures) at o.ensures.0 in
     as_printed input c.if-input-gt-INPUT.false o.result c.present-reply.result e c.present-reply.ensures.0

@@ -6,7 +6,7 @@ use Rattle.listing.proofs.print.Goals as goal
 
 pub write-requires : goal.write-requires
 write-requires c =
-    rw c.cells.ensures (room c.requires, sums_room c.requires)
+    record { by_index = rw c.cells.ensures (room c.requires); by_index_2 = rw c.cells.ensures (sums_room c.requires) }
 
 pub returns : goal.returns
 returns c =

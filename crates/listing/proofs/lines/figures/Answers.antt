@@ -14,7 +14,7 @@ pub signed-past_net-requires : goal.signed-past_net-requires
 signed-past_net-requires c =
     let d = c.args.c in
     let m = signed_most 19 d.position (omega arith) (omega arith) in
-    rw (there d.position c.requires.position_bound) (omega arith, omega (arith, counts_most d.sent d.received))
+    record { n_bound = rw (there d.position c.requires.position_bound) c.requires.position_bound; n_in_bounds = rw (there d.position c.requires.position_bound) (omega (arith, counts_most d.sent d.received)) }
 
 pub text-requires : goal.text-requires
 text-requires c =

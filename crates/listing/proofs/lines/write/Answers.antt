@@ -23,17 +23,17 @@ entity-at-requires c =
 
 pub plus-sums-requires : goal.plus-sums-requires
 plus-sums-requires c =
-    rw (c.loop-n.invariant.summed, ← sums_next c.loop-n.n c.args.t1) (c.requires.by_index_2 (c.loop-n.n + 1) (omega arith))
+    rw (c.loop-n.invariant.summed, ← sums_next c.loop-n.n c.args.cells) (c.requires.by_index_2 (c.loop-n.n + 1) (omega arith))
 
 pub loop-n-preserved : goal.loop-n-preserved
 loop-n-preserved c =
     let e = c.loop-n.n + 1 in
-    let d = get_or c.args.t1 e zero_cell in
+    let d = get_or c.args.cells e zero_cell in
     let m = entity_most e d (omega arith) (omega (arith, (c.requires.by_index e).position)) in
     record {
       within = omega arith;
       short = omega (arith, c.entity-at.ensures.0);
-      summed = c.plus-sums.ensures ∙ rw c.loop-n.invariant.summed (sym (sums_next c.loop-n.n c.args.t1));
+      summed = c.plus-sums.ensures ∙ rw c.loop-n.invariant.summed (sym (sums_next c.loop-n.n c.args.cells));
       lines = rw lines_next (on c.loop-n.invariant.lines (entity_line e d) c.entity-at.ensures);
     }
 
@@ -43,10 +43,10 @@ figures-requires c =
 
 pub returns : goal.returns
 returns c =
-    let cells = c.args.t1 in
+    let cells = c.args.cells in
     let t = c.text-at in
     let all : c.loop-n.n ≡ 499 = omega arith in
-    let w : Wrote t.result (entity_lines 499 cells) t.last.0 c.loop-n.out c.loop-n.at = rw all at c.loop-n.invariant.lines in
-    let listed = on (heading c.args.out.now t.last.0 t.result t.ensures) (entity_lines 499 cells) (w.next, w.held) in
+    let w : Wrote t.result (entity_lines 499 cells) t.new.out c.loop-n.out c.loop-n.at = rw all at c.loop-n.invariant.lines in
+    let listed = on (heading c.args.out.now t.new.out t.result t.ensures) (entity_lines 499 cells) (w.next, w.held) in
     let sums = rw (c.loop-n.invariant.summed, all) at c.figures.ensures in
     whole (rw (listing_parts cells) at (on (on listed (bytes "SUM") c.text-at-2.ensures) (figures_line [] (cell_sums 499 cells)) sums))

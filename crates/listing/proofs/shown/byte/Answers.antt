@@ -6,7 +6,7 @@ use Rattle.listing.proofs.shown.byte.Goals as goal
 pub returns-in_default : goal.returns-in_default
 unfolding shown_byte
 returns-in_default c =
-    rw (lt-leb c.args.b 31 (omega arith), ne_eqb c.args.b 127 c.in-0-to-31.rest.1)
+    rw (lt-leb c.args.b 31 (omega arith), ne_eqb c.args.b 127 (omega arith))
 
 pub returns-in-0-to-31 : goal.returns-in-0-to-31
 unfolding shown_byte
