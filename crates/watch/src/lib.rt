@@ -1,5 +1,6 @@
 // Bytes that come in pieces, watched at one place. Only who began to watch knows which place that is, so what is proved of the byte there is proved of every byte.
 #![tactic(auto)]
+
 ghost use Rattle.std.specs.Prelude.{◌≡◌};
 ghost use Rattle.watch.specs.Watches.{place_of, watch_at, watch_on};
 
