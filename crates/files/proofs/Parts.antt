@@ -10,6 +10,9 @@ use lib.IntN.{ℤ, pos, negsuc}
 use lib.ListN.{length, take}
 use lib.Seq.{length-take-le}
 use lib.Signed.{lt_z, non_neg}
+use Rattle.std.specs.Prelude.{Option, None, Some, IfSome, unwrap_or, option_map}
+use Rattle.std.specs.declared.fs.File.{File}
+use Rattle.std.specs.Fd.{file_raw_fd}
 use Rattle.watch.specs.declared.Watch.{Watch}
 use Rattle.watch.specs.Watches.{place_of, watch_at, watch_on}
 use Rattle.watch.proofs.Watching.{on_none, fresh, same_place, in_two}
@@ -39,6 +42,11 @@ not_below (pos n) e = tt
 not_below (negsuc n) e = absurd (false≢true (sym e))
 
 -- ---- sources
+
+-- a meter of its own, or the file itself
+pub metered : (meter : Option File) (d : ℤ) → IfSome meter (λ file. T (non_neg (file_raw_fd file))) → T (non_neg d) → T (non_neg (unwrap_or (option_map file_raw_fd meter) d))
+metered None d m h = h
+metered (Some file) d m h = m
 
 pub just_opened : (path : List ℕ) {o : Readable} {source : Source} → o ≡ At source → AsOpened path o → JustOpened path source
 just_opened path e w = subst (AsOpened path) e w

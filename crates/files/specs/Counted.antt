@@ -6,4 +6,4 @@ use Rattle.files.specs.declared.taking.Taken.TheVariants.{Bytes, Failed}
 -- no more than so many bytes
 abbrev pub Counted : Taken → ℕ → Type 0
 Counted (Bytes n) most = n ≤ most
-Counted Failed most = Unit {0}
+Counted (Failed error) most = Unit {0}

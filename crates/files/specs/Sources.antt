@@ -1,6 +1,7 @@
 -- A file that is being read. Its fields are private: other specs speak of it by these words.
-use Rattle.std.specs.Prelude.{ℕ, ◌+◌, ◌^◌, ◌≤◌, ◌<◌, Bool, false, List, ◌≡◌, T, ltb, ℤ, length, take}
+use Rattle.std.specs.Prelude.{ℕ, ◌+◌, ◌^◌, ◌≤◌, ◌<◌, Bool, false, List, ◌≡◌, T, ltb, ℤ, length, take, option_map, unwrap_or}
 use Rattle.std.specs.Int.Signed.{non_neg}
+use Rattle.std.specs.Fd.{file_raw_fd}
 use Rattle.watch.specs.declared.Watch.{Watch}
 use Rattle.watch.specs.Watches.{place_of, watch_at, watch_on}
 use Rattle.files.specs.declared.taking.Source.{Source}
@@ -31,11 +32,11 @@ abbrev pub has_ended : Source → Bool
 has_ended source = source.ended
 
 abbrev pub descriptor_of : Source → ℤ
-descriptor_of source = source.fd
+descriptor_of source = file_raw_fd source.file
 
 -- the descriptor whose place tells how far a pipe has come; a file's own where it has places
 abbrev pub meter_of : Source → ℤ
-meter_of source = source.meter
+meter_of source = unwrap_or (option_map file_raw_fd source.meter) (descriptor_of source)
 
 -- one that has handed over so many bytes is not read on
 abbrev pub most_handed : ℕ
@@ -66,6 +67,13 @@ pub record GoneOn (before : Source) (bytes : List ℕ) (end : Bool) (after : Sou
   pub descriptor : descriptor_of after ≡ descriptor_of before
   pub meter : meter_of after ≡ meter_of before
   pub name : name_of after ≡ name_of before
+
+-- what was handed over is what the other has handed over; each has a descriptor of its own
+pub record Copied (source copy : Source) : Type 0 where
+  pub total : handed_by copy ≡ handed_by source
+  pub watch : watch_of copy ≡ watch_of source
+  pub ended : has_ended copy ≡ has_ended source
+  pub name : name_of copy ≡ name_of source
 
 -- so many bytes were handed over into the buffer: they are counted and watched, and the end was met where they do not fill it
 pub record ReadFurther (before : Source) (n : ℕ) (buffer : List ℕ) (after : Source) : Type 0 where

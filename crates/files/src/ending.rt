@@ -1,8 +1,11 @@
 // How a program ends. It has no exit status of its own: it tells its launcher on a descriptor.
 ghost use Rattle.std.specs.Prelude.{◌≤◌};
 
+use crate::args;
+use std::rt::Env;
+
 // Accepted; or something was refused; or it could not be done, and that was said.
-#[derive(Drop)]
+#[derive(Clone, Copy)]
 pub enum Ended {
     Accepted,
     Refused,
@@ -50,9 +53,9 @@ fn written(ended: Ended, launcher: i32) {
 }
 
 // The word names the descriptor. Without a launcher nobody listens, and nothing is lost.
-pub fn tell(word: usize, ended: Ended) {
+pub fn tell(words: &impl Env, word: usize, ended: Ended) {
     let mut digits = io::buffer();
-    let length = os::arg(word, &mut digits);
+    let length = args::word(words, word, &mut digits);
     if length == 0 {
         return;
     }

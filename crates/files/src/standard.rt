@@ -4,36 +4,37 @@ ghost use Rattle.files.specs.Counted.{Counted};
 
 use crate::taking;
 use crate::taking::Taken;
-use libc::STDIN_FILENO;
+use std::io::Read;
 
 // What one reading brings, begun again where a signal came before its first byte; nothing at the end.
-fn read_once(buf: &mut [u8]) -> Taken
+fn read_once(from: &mut impl Read, buf: &mut [u8]) -> Taken
     ensures { Counted result (length buf.new) }
 {
-    let mut got = libc::read(STDIN_FILENO, buf);
+    let mut got = from.read(buf);
     let mut tries: usize = 0;
     while tries < taking::TRIES {
         tries += 1;
-        if !taking::interrupted(got) {
+        if !taking::interrupted(&got) {
             break;
         }
-        got = libc::read(STDIN_FILENO, buf);
+        got = from.read(buf);
     }
-    if got < 0 {
-        return Taken::Failed;
+    match got {
+        Ok(n) => Taken::Bytes(n),
+        Err(error) => Taken::Failed(error),
     }
-    Taken::Bytes(io::count(got, buf))
 }
 
 // As much as the buffer takes.
-pub fn input(buf: &mut [u8]) -> Taken
+pub fn input(rt: &impl Input, buf: &mut [u8]) -> Taken
     ensures { Counted result (length buf.new) }
 {
+    let mut from = rt.reader();
     let mut done: usize = 0;
     while done < buf.len() {
-        let taken = read_once(&mut buf[done..]);
+        let taken = read_once(&mut from, &mut buf[done..]);
         let Taken::Bytes(more) = taken else {
-            return Taken::Failed;
+            return taken;
         };
         if more == 0 {
             break;
