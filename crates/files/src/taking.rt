@@ -65,15 +65,19 @@ pub enum Filled {
     Failed(Failure),
 }
 
-// A name that is no text is the name of no file that can be opened here.
-fn opened(files: &impl Files<File = File>, path: &[u8]) -> Result<File> {
+// The system is asked by text: a name that is none cannot be.
+pub fn text(path: &[u8]) -> Result<&str> {
     match str::from_utf8(path) {
-        Ok(text) => File::open(files, text),
+        Ok(text) => Ok(text),
         Err(_) => Err(Error::new(
             ErrorKind::InvalidFilename,
             "its name is not UTF-8, and it cannot be opened",
         )),
     }
+}
+
+fn opened(files: &impl Files<File = File>, path: &[u8]) -> Result<File> {
+    File::open(files, text(path)?)
 }
 
 // The file of that name, open for reading. That its descriptor is one is asked, since no contract says it.

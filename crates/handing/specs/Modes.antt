@@ -1,5 +1,5 @@
 -- The modes of files, as the launcher hands them over.
-use Rattle.std.specs.Prelude.{ℕ, ◌+◌, ◌-◌, ◌*◌, ◌/◌, Bool, cond, ◌&&◌, List, leb, ltb, length, get_or}
+use Rattle.std.specs.Prelude.{ℕ, ◌+◌, ◌-◌, ◌*◌, ◌/◌, cond, List, leb, ltb, length, get_or}
 use Rattle.handing.specs.declared.modes.Mode.{Mode}
 use Rattle.handing.specs.declared.modes.Mode.TheVariants.{Old, New}
 

@@ -1,98 +1,158 @@
 // Where a job's bytes go. They are written beside OUT first and take its place whole, so that no failure leaves half a file under its name.
 #![tactic(auto)]
+
 ghost use Rattle.std.specs.Prelude.{◌+◌, ◌≤◌, length};
 ghost use Rattle.handing.specs.Handed.{AllOf};
 
 use files::saying;
-use libc::{ENOENT, PATH_MAX};
+use files::taking::text;
 use modes::Mode;
+use std::fs;
+use std::fs::{File, OpenOptions, Permissions};
+use std::io::{ErrorKind, Result, Write};
+use std::os::unix::fs::PermissionsExt;
+use std::rt::Files;
 
 pub mod modes;
+
+// A path has no more bytes.
+const PATH_MAX: usize = 4096;
 
 // A path, and the name of a part in its folder.
 const PART: usize = 2 * PATH_MAX;
 
 // So many bytes stand under the name; or they do not, and that was said.
-#[derive(Drop)]
+#[derive(Clone, Copy)]
 pub enum Handed {
     Whole(usize),
     Failed,
 }
 
-fn is_link(path: &[u8]) -> bool
+fn leads_on(files: &impl Files<File = File>, path: &[u8]) -> Result<bool> {
+    Ok(fs::symlink_metadata(files, text(path)?)?.is_symlink())
+}
+
+fn is_link(files: &impl Files<File = File>, path: &[u8]) -> bool
     requires { length path.now ≤ 4096 }
 {
-    let mut ended = io::buffer();
-    writing::text(&mut ended, 0, path);
-    ended[PATH_MAX - 1] = 0;
-    let mut target = [0u8; 1];
-    libc::readlink(&ended, &mut target) >= 0
+    match leads_on(files, path) {
+        Ok(leads) => leads,
+        Err(_) => false,
+    }
+}
+
+fn opened(files: &impl Files<File = File>, path: &[u8]) -> Result<File> {
+    OpenOptions::new()
+        .read(true)
+        .write(true)
+        .open(files, text(path)?)
 }
 
 // Whether a new file can take its place: there is none, or a plain one.
-fn is_plain(path: &[u8]) -> bool {
-    let fd = os::open_update(path);
-    if fd < 0 {
-        if os::errno() == ENOENT {
-            return true;
+fn is_plain(files: &impl Files<File = File>, path: &[u8]) -> bool {
+    match opened(files, path) {
+        Ok(file) => {
+            // nothing of a device or a pipe can be kept on a disk; asking that changes nothing of the file
+            let plain = file.sync_all().is_ok();
+            if !plain {
+                saying::wrong(path, b"not a plain file");
+            }
+            plain
         }
-        saying::failed(path);
-        return false;
+        Err(error) => {
+            if error.kind() == ErrorKind::NotFound {
+                return true;
+            }
+            saying::failed(path, &error);
+            false
+        }
     }
-    // nothing of a device or a pipe can be kept on a disk; asking that changes nothing of the file
-    let plain = libc::fsync(fd) == 0;
-    libc::close(fd);
-    if !plain {
-        saying::wrong(path, b"not a plain file");
-    }
-    plain
 }
 
 // Whether a new file can take the place of what the path names. A link would stay, and what it leads to would not.
-fn replaceable(path: &[u8]) -> bool
+fn replaceable(files: &impl Files<File = File>, path: &[u8]) -> bool
     requires { length path.now ≤ 4096 }
 {
-    if is_link(path) {
+    if is_link(files, path) {
         saying::wrong(path, b"not a plain file");
         return false;
     }
-    is_plain(path)
+    is_plain(files, path)
 }
 
-fn has_mode(fd: i32, mode: Mode) -> bool {
+fn has_mode(file: &File, mode: Mode) -> Result<()> {
     match mode {
-        Mode::Old(bits) => libc::fchmod(fd, bits) == 0,
-        Mode::New => true,
+        Mode::Old(bits) => file.set_permissions(Permissions::from_mode(bits)),
+        Mode::New => Ok(()),
     }
+}
+
+// Nobody has a file of that name, or this fails.
+fn created(files: &impl Files<File = File>, part: &[u8]) -> Result<File> {
+    OpenOptions::new()
+        .write(true)
+        .create_new(true)
+        .open(files, text(part)?)
+}
+
+fn written(file: &File, mode: Mode, bytes: &[u8]) -> Result<()> {
+    let mut to = file;
+    to.write_all(bytes)?;
+    has_mode(file, mode)?;
+    file.sync_all()
+}
+
+fn unlink(files: &impl Files<File = File>, part: &[u8]) -> Result<()> {
+    fs::remove_file(files, text(part)?)
 }
 
 // The bytes, in a new file beside the path.
-fn write_part(part: &mut [u8], path: &[u8], mode: Mode, bytes: &[u8]) -> bool {
-    // nobody has a file of that name, or this fails
-    let fd = os::create(part);
-    if fd < 0 {
-        saying::failed(path);
-        return false;
+fn write_part(
+    files: &impl Files<File = File>,
+    part: &[u8],
+    path: &[u8],
+    mode: Mode,
+    bytes: &[u8],
+) -> bool {
+    let file = match created(files, part) {
+        Ok(file) => file,
+        Err(error) => {
+            saying::failed(path, &error);
+            return false;
+        }
+    };
+    match written(&file, mode, bytes) {
+        Ok(()) => true,
+        Err(error) => {
+            saying::failed(path, &error);
+            let _ = unlink(files, part);
+            false
+        }
     }
-    let whole = io::write_all(fd, bytes) && has_mode(fd, mode) && libc::fsync(fd) == 0;
-    if !whole {
-        saying::failed(path);
-        os::unlink(part);
-    }
-    libc::close(fd);
-    whole
 }
 
-fn replace(part: &mut [u8], path: &[u8], mode: Mode, bytes: &[u8]) -> bool {
-    if !write_part(part, path, mode, bytes) {
+fn renamed(files: &impl Files<File = File>, part: &[u8], path: &[u8]) -> Result<()> {
+    fs::rename(files, text(part)?, text(path)?)
+}
+
+fn replace(
+    files: &impl Files<File = File>,
+    part: &[u8],
+    path: &[u8],
+    mode: Mode,
+    bytes: &[u8],
+) -> bool {
+    if !write_part(files, part, path, mode, bytes) {
         return false;
     }
-    if os::rename(part, path) == 0 {
-        return true;
+    match renamed(files, part, path) {
+        Ok(()) => true,
+        Err(error) => {
+            saying::failed(path, &error);
+            let _ = unlink(files, part);
+            false
+        }
     }
-    saying::failed(path);
-    os::unlink(part);
-    false
 }
 
 // Where the last part of a path begins: its folder stands before.
@@ -122,25 +182,37 @@ fn name_part(part: &mut [u8], path: &[u8], name: &[u8]) -> usize
 }
 
 // A new file beside the path, with these bytes; then it takes the place of what the path names.
-fn write_beside(path: &[u8], name: &[u8], mode: Mode, bytes: &[u8]) -> bool
+fn write_beside(
+    files: &impl Files<File = File>,
+    path: &[u8],
+    name: &[u8],
+    mode: Mode,
+    bytes: &[u8],
+) -> bool
     requires path_len_bound { length path.now ≤ 4096 }
     requires name_len_bound { length name.now ≤ 4096 }
 {
     let mut part = [0u8; PART];
     let end = name_part(&mut part, path, name);
-    replace(&mut part[..end], path, mode, bytes)
+    replace(files, &part[..end], path, mode, bytes)
 }
 
 // The bytes under that path. While they are written they stand beside it, under the other name.
-pub fn put(path: &[u8], name: &[u8], mode: Mode, bytes: &[u8]) -> Handed
+pub fn put(
+    files: &impl Files<File = File>,
+    path: &[u8],
+    name: &[u8],
+    mode: Mode,
+    bytes: &[u8],
+) -> Handed
     requires path_len_bound { length path.now ≤ 4096 }
     requires name_len_bound { length name.now ≤ 4096 }
     ensures { AllOf bytes.now result }
 {
-    if !replaceable(path) {
+    if !replaceable(files, path) {
         return Handed::Failed;
     }
-    if !write_beside(path, name, mode, bytes) {
+    if !write_beside(files, path, name, mode, bytes) {
         return Handed::Failed;
     }
     Handed::Whole(bytes.len())

@@ -3,7 +3,7 @@ ghost use Rattle.std.specs.Prelude.{◌≡◌};
 ghost use Rattle.handing.specs.Modes.{octal, spelled_mode, mode_of};
 
 // That of the file in whose place it is put; or that of any new file.
-#[derive(Drop)]
+#[derive(Clone, Copy)]
 pub enum Mode {
     Old(u32),
     New,
