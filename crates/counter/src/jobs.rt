@@ -4,11 +4,12 @@ ghost use Rattle.desk.specs.Calls.{Reachable};
 ghost use Rattle.handing.specs.Handed.{AllOf};
 ghost use Rattle.counter.specs.InBuffer.{InBuffer};
 
+use crate::world::World;
 use crate::{member, say, share};
 use desk::{Reply, Session};
 use files::ending::Ended;
-use files::taking;
 use files::taking::Filled;
+use files::{args, taking};
 use handing::modes::Mode;
 use handing::{Handed, modes};
 use intake::long::Took;
@@ -21,48 +22,48 @@ use typed::call::{Job, Word};
 use typed::words;
 
 // The mode of a file to be written: that of OUT is the first, or that of FOLDER/402.txt is at 402.
-fn mode(i: usize) -> Mode {
+fn mode(rt: &impl World, i: usize) -> Mode {
     let mut word = io::buffer();
-    let length = os::arg(Word::MODES, &mut word);
+    let length = args::word(rt, Word::MODES, &mut word);
     modes::of(&word[..length], i)
 }
 
 // The bytes under that path, in a file of mode i.
-pub(crate) fn put(path: &[u8], i: usize, bytes: &[u8]) -> Handed
+pub(crate) fn put(rt: &impl World, path: &[u8], i: usize, bytes: &[u8]) -> Handed
     requires { length path.now ≤ 4096 }
     ensures { AllOf bytes.now result }
 {
     let mut name = io::buffer();
-    let length = os::arg(Word::PART, &mut name);
-    handing::put(path, &name[..length], mode(i), bytes)
+    let length = args::word(rt, Word::PART, &mut name);
+    handing::put(rt, path, &name[..length], mode(rt, i), bytes)
 }
 
 // Acceptance is said once the bytes are where they belong.
-pub(crate) fn hand_over(word: usize, output: Output, out: &[u8]) -> Ended
+pub(crate) fn hand_over(rt: &impl World, word: usize, output: Output, out: &[u8]) -> Ended
     requires { InBuffer output out.now }
 {
     let Output::Accepted(n) = output else {
-        return say::output(output);
+        return say::output(rt, output);
     };
     let mut path = io::buffer();
-    let length = taking::name(word, &mut path);
+    let length = taking::name(rt, word, &mut path);
     if length == 0 {
         return Ended::Undone;
     }
-    let handed = put(&path[..length], 0, &out[..n]);
+    let handed = put(rt, &path[..length], 0, &out[..n]);
     let Handed::Whole(bytes) = handed else {
         return Ended::Undone;
     };
-    say::output(Output::Accepted(bytes))
+    say::output(rt, Output::Accepted(bytes))
 }
 
-fn read(session: Session) -> Ended {
+fn read(rt: &impl World, session: Session) -> Ended {
     let mut input = held::input();
-    let taken = taking::file(Word::FIRST, &mut input);
+    let taken = taking::file(rt, Word::FIRST, &mut input);
     let Filled::Bytes(_, n) = taken else {
         return Ended::Undone;
     };
-    say::answer(session.read(&input[..n]))
+    say::answer(rt, session.read(&input[..n]))
 }
 
 // The session after a file was presented, and how that ended.
@@ -73,27 +74,27 @@ struct Turn {
 }
 
 // The file that a word names, presented.
-fn present_one(session: Session, word: usize) -> Turn
+fn present_one(rt: &impl World, session: Session, word: usize) -> Turn
     requires { Reachable session }
     ensures { Reachable result.session }
 {
     let mut path = io::buffer();
-    let length = taking::name(word, &mut path);
+    let length = taking::name(rt, word, &mut path);
     if length == 0 {
         return Turn {
             ended: Ended::Undone,
             session,
         };
     }
-    present_named(session, &path[..length])
+    present_named(rt, session, &path[..length])
 }
 
-fn present_named(session: Session, path: &[u8]) -> Turn
+fn present_named(rt: &impl World, session: Session, path: &[u8]) -> Turn
     requires { Reachable session }
     ensures { Reachable result.session }
 {
     let mut input = held::input();
-    let taken = taking::file_named(path, &mut input);
+    let taken = taking::file_named(rt, path, &mut input);
     let Filled::Bytes(_, n) = taken else {
         return Turn {
             ended: Ended::Undone,
@@ -102,7 +103,7 @@ fn present_named(session: Session, path: &[u8]) -> Turn
     };
     let reply = session.present(&input[..n]);
     let answer = reply.answer;
-    let ended = say::named(answer, path);
+    let ended = say::named(rt, answer, path);
     let after = reply.session;
     Turn {
         ended,
@@ -120,15 +121,15 @@ fn both(before: Ended, now: Ended) -> Ended {
 }
 
 // A file that cannot be read ends the day without a listing: one that lacks a file would look whole.
-fn present(session: Session) -> Ended
+fn present(rt: &impl World, session: Session) -> Ended
     requires { Reachable session }
 {
-    let count = os::arg_count();
+    let count = args::count(rt);
     let mut after = session;
     let mut ended = Ended::Accepted;
     let mut word = Word::FIRST;
     while word < count {
-        let turn = present_one(after, word);
+        let turn = present_one(rt, after, word);
         word += 1;
         let now = turn.ended;
         if let Ended::Undone = now {
@@ -137,71 +138,71 @@ fn present(session: Session) -> Ended
         ended = both(ended, now);
         after = turn.session;
     }
-    both(ended, say::list(after))
+    both(ended, say::list(rt, after))
 }
 
-pub(crate) fn entity() -> u64
+pub(crate) fn entity(rt: &impl World) -> u64
     ensures { result < 5000 }
 {
     let mut word = io::buffer();
-    let length = os::arg(Word::FIRST, &mut word);
+    let length = args::word(rt, Word::FIRST, &mut word);
     words::entity(&word[..length])
 }
 
-fn extract(session: Session) -> Ended {
+fn extract(rt: &impl World, session: Session) -> Ended {
     let mut input = held::input();
-    let taken = taking::file(Word::SECOND, &mut input);
+    let taken = taking::file(rt, Word::SECOND, &mut input);
     let Filled::Bytes(_, n) = taken else {
         return Ended::Undone;
     };
     let mut out = held::output();
-    let output = session.extract(entity(), &input[..n], &mut out);
-    hand_over(Word::THIRD, output, &out)
+    let output = session.extract(entity(rt), &input[..n], &mut out);
+    hand_over(rt, Word::THIRD, output, &out)
 }
 
-fn strip(session: Session) -> Ended {
+fn strip(rt: &impl World, session: Session) -> Ended {
     let mut input = held::input();
-    let taken = taking::file(Word::FIRST, &mut input);
+    let taken = taking::file(rt, Word::FIRST, &mut input);
     let Filled::Bytes(_, n) = taken else {
         return Ended::Undone;
     };
     let mut out = held::output();
     let output = session.strip(&input[..n], &mut out);
-    hand_over(Word::SECOND, output, &out)
+    hand_over(rt, Word::SECOND, output, &out)
 }
 
-fn build(session: Session) -> Ended {
+fn build(rt: &impl World, session: Session) -> Ended {
     // one byte more than a header body shows that there was more
     let mut header = [0u8; Session::RECORD + 1];
-    let taken = taking::file(Word::FIRST, &mut header);
+    let taken = taking::file(rt, Word::FIRST, &mut header);
     let Filled::Bytes(_, n) = taken else {
         return Ended::Undone;
     };
-    build_from(session, &header[..n])
+    build_from(rt, session, &header[..n])
 }
 
-fn build_from(session: Session, header: &[u8]) -> Ended {
+fn build_from(rt: &impl World, session: Session, header: &[u8]) -> Ended {
     let mut path = io::buffer();
-    let length = taking::name(Word::SECOND, &mut path);
+    let length = taking::name(rt, Word::SECOND, &mut path);
     if length == 0 {
         return Ended::Undone;
     }
-    build_of(session, header, &path[..length])
+    build_of(rt, session, header, &path[..length])
 }
 
 // From the tray of that name.
-fn build_of(session: Session, header: &[u8], path: &[u8]) -> Ended {
+fn build_of(rt: &impl World, session: Session, header: &[u8], path: &[u8]) -> Ended {
     let mut input = held::long();
-    let took = long::take(Form::Tray, path, header, &mut input);
+    let took = long::take(rt, Form::Tray, path, header, &mut input);
     let Took::Whole(n, _) = took else {
-        return say_long(took);
+        return say_long(rt, took);
     };
     let mut out = held::output();
     let output = session.build(header, &input[..n], &mut out);
-    hand_over(Word::THIRD, output, &out)
+    hand_over(rt, Word::THIRD, output, &out)
 }
 
-pub(crate) fn say_long(took: Took) -> Ended {
+pub(crate) fn say_long(rt: &impl World, took: Took) -> Ended {
     let Took::Long(known, _, _) = took else {
         return Ended::Undone;
     };
@@ -209,27 +210,27 @@ pub(crate) fn say_long(took: Took) -> Ended {
     let Known::Finite(answer) = known else {
         return Ended::Undone;
     };
-    say::answer(answer)
+    say::answer(rt, answer)
 }
 
 // The job, where the session was opened.
-pub(crate) fn run(job: Job, opened: Reply, roll: Roll) -> Ended
+pub(crate) fn run(rt: &impl World, job: Job, opened: Reply, roll: Roll) -> Ended
     requires { Reachable opened.session }
 {
     let answer = opened.answer;
     let Answer::Accepted = answer else {
-        return say::refused_opening(answer, roll);
+        return say::refused_opening(rt, answer, roll);
     };
     let session = opened.session;
     match job {
-        Job::Read => read(session),
-        Job::Present => present(session),
-        Job::Extract => extract(session),
-        Job::Build => build(session),
-        Job::Strip => strip(session),
-        Job::Share => share::share(session),
-        Job::Receive => member::receive(session),
-        Job::Reason => member::reason(session),
-        Job::Reasons => member::reasons(session),
+        Job::Read => read(rt, session),
+        Job::Present => present(rt, session),
+        Job::Extract => extract(rt, session),
+        Job::Build => build(rt, session),
+        Job::Strip => strip(rt, session),
+        Job::Share => share::share(rt, session),
+        Job::Receive => member::receive(rt, session),
+        Job::Reason => member::reason(rt, session),
+        Job::Reasons => member::reasons(rt, session),
     }
 }

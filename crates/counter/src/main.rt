@@ -1,46 +1,51 @@
 // The counter: the desk's jobs from a shell. Here is reading, calling and writing; what is answered and printed is proved in the crates below.
 #![tactic(auto)]
+
 ghost use Rattle.std.specs.Prelude.{◌^◌, ◌<◌};
 
 use desk::Session;
 use files::ending::Ended;
-use files::{ending, taking};
+use files::{args, ending, taking};
 use intake::roster;
 use intake::roster::Listed;
-use libc::STDERR_FILENO;
 use paper::rules::Currency;
 use typed::call::{Asked, Job, Word};
 use typed::{call, words};
+use world::World;
 
 mod jobs;
 mod making;
 mod member;
 mod say;
 mod share;
+mod world;
+
+// Standard error.
+const STDERR: i32 = 2;
 
 // What the words of this call ask for.
-fn called() -> Asked {
+fn called(rt: &impl World) -> Asked {
     let mut job = io::buffer();
-    let length = os::arg(Word::JOB, &mut job);
+    let length = args::word(rt, Word::JOB, &mut job);
     let mut next = io::buffer();
-    let span = os::arg(Word::COMPANY_CURRENCY, &mut next);
+    let span = args::word(rt, Word::COMPANY_CURRENCY, &mut next);
     let mut currency = io::buffer();
-    let width = os::arg(Word::CURRENCY, &mut currency);
-    let count = os::arg_count();
+    let width = args::word(rt, Word::CURRENCY, &mut currency);
+    let count = args::count(rt);
     call::asked_for(&job[..length], &next[..span], &currency[..width], count)
 }
 
-fn date() -> u64
+fn date(rt: &impl World) -> u64
     ensures { result < 10 ^ 6 }
 {
     let mut word = io::buffer();
-    let length = os::arg(Word::DATE, &mut word);
+    let length = args::word(rt, Word::DATE, &mut word);
     words::date(&word[..length])
 }
 
 fn usage() {
     io::write_all(
-        STDERR_FILENO,
+        STDERR,
         b"usage: counter read DATE CURRENCY ROSTER FILE\n\
         \x20      counter present DATE CURRENCY ROSTER FILE..\n\
         \x20      counter extract DATE CURRENCY ROSTER ENTITY FILE OUT\n\
@@ -58,32 +63,31 @@ fn usage() {
 }
 
 // The job in the session that this roster opens.
-fn open_for(job: Job, currency: Currency, path: &[u8]) -> Ended {
+fn open_for(rt: &impl World, job: Job, currency: Currency, path: &[u8]) -> Ended {
     let mut entities = [0u64; Session::ROSTER];
-    let roll = roster::gather(path, &mut entities);
-    let listed = roll.listed;
-    let Listed::Entities(count, _) = listed else {
+    let roll = roster::gather(rt, path, &mut entities);
+    let Listed::Entities(count, _) = roll.listed else {
         return Ended::Undone;
     };
-    let opened = Session::open(date(), currency, &entities[..count]);
-    jobs::run(job, opened, roll)
+    let opened = Session::open(date(rt), currency, &entities[..count]);
+    jobs::run(rt, job, opened, roll)
 }
 
 // A job in a session of a currency.
-fn serve_in(job: Job, currency: Currency) -> Ended {
+fn serve_in(rt: &impl World, job: Job, currency: Currency) -> Ended {
     let mut path = io::buffer();
-    let length = taking::name(Word::ROSTER, &mut path);
+    let length = taking::name(rt, Word::ROSTER, &mut path);
     if length == 0 {
         return Ended::Undone;
     }
-    open_for(job, currency, &path[..length])
+    open_for(rt, job, currency, &path[..length])
 }
 
 // What is asked for, done.
-fn serve() -> Ended {
-    match called() {
-        Asked::To(job, currency) => serve_in(job, currency),
-        Asked::Company(currency) => making::make(currency),
+fn serve(rt: &impl World) -> Ended {
+    match called(rt) {
+        Asked::To(job, currency) => serve_in(rt, job, currency),
+        Asked::Company(currency) => making::make(rt, currency),
         Asked::Nothing => {
             usage();
             Ended::Undone
@@ -91,6 +95,6 @@ fn serve() -> Ended {
     }
 }
 
-fn main() {
-    ending::tell(Word::LAUNCHER, serve());
+fn main(rt: HostRuntime) {
+    ending::tell(&rt, Word::LAUNCHER, serve(&rt));
 }

@@ -1,5 +1,6 @@
 // A company's file made into a tray: no session is opened.
 use crate::jobs;
+use crate::world::World;
 use desk::Session;
 use files::ending::Ended;
 use files::taking;
@@ -10,33 +11,33 @@ use looking::Form;
 use paper::rules::Currency;
 use typed::call::Word;
 
-pub(crate) fn make(currency: Currency) -> Ended {
+pub(crate) fn make(rt: &impl World, currency: Currency) -> Ended {
     // one byte more than an LO body shows that there was more
     let mut lo = [0u8; Session::RECORD + 1];
-    let taken = taking::file(Word::LO, &mut lo);
+    let taken = taking::file(rt, Word::LO, &mut lo);
     let Filled::Bytes(_, n) = taken else {
         return Ended::Undone;
     };
-    make_under(currency, &lo[..n])
+    make_under(rt, currency, &lo[..n])
 }
 
-fn make_under(currency: Currency, lo: &[u8]) -> Ended {
+fn make_under(rt: &impl World, currency: Currency, lo: &[u8]) -> Ended {
     let mut path = io::buffer();
-    let length = taking::name(Word::COMPANY, &mut path);
+    let length = taking::name(rt, Word::COMPANY, &mut path);
     if length == 0 {
         return Ended::Undone;
     }
-    make_of(currency, lo, &path[..length])
+    make_of(rt, currency, lo, &path[..length])
 }
 
 // From the company's file of that name.
-fn make_of(currency: Currency, lo: &[u8], path: &[u8]) -> Ended {
+fn make_of(rt: &impl World, currency: Currency, lo: &[u8], path: &[u8]) -> Ended {
     let mut input = held::long();
-    let took = long::take(Form::Company(currency), path, lo, &mut input);
+    let took = long::take(rt, Form::Company(currency), path, lo, &mut input);
     let Took::Whole(n, _) = took else {
-        return jobs::say_long(took);
+        return jobs::say_long(rt, took);
     };
     let mut out = held::output();
     let output = company::tray(currency, lo, &input[..n], &mut out);
-    jobs::hand_over(Word::OUT, output, &out)
+    jobs::hand_over(rt, Word::OUT, output, &out)
 }

@@ -1,6 +1,7 @@
 // The day's hand-out: the extract of each entity to which the file holds a record, in a file of its own.
 ghost use Rattle.std.specs.Prelude.{◌+◌, ◌≤◌, ◌<◌, length};
 
+use crate::world::World;
 use crate::{jobs, say};
 use desk::Session;
 use files::ending::Ended;
@@ -8,10 +9,12 @@ use files::taking::Filled;
 use files::{saying, taking};
 use handing::Handed;
 use intake::held;
-use libc::PATH_MAX;
 use paper::answer::Answer;
 use sharing::Part;
 use typed::call::Word;
+
+// A path has no more bytes.
+const PATH_MAX: usize = 4096;
 
 // What a file's name takes behind that of its folder, at most.
 const NAME: usize = 32;
@@ -28,40 +31,53 @@ fn path_in(folder: &[u8], entity: u64, path: &mut [u8]) -> usize
 }
 
 // The line is printed once the bytes are where they belong.
-fn hand_out(folder: &[u8], entity: u64, bytes: &[u8]) -> Ended
+fn hand_out(rt: &impl World, folder: &[u8], entity: u64, bytes: &[u8]) -> Ended
     requires folder_len_bound { length folder.now + 32 ≤ 4096 }
     requires entity_bound { entity < 500 }
 {
     let mut path = io::buffer();
     let length = path_in(folder, entity, &mut path);
-    let handed = jobs::put(&path[..length], entity as usize, bytes);
+    let handed = jobs::put(rt, &path[..length], entity as usize, bytes);
     let Handed::Whole(written) = handed else {
         return Ended::Undone;
     };
-    say::part(entity, written)
+    say::part(rt, entity, written)
 }
 
-fn share_with(session: Session, entity: u64, file: &[u8], folder: &[u8], out: &mut [u8]) -> Ended
+fn share_with(
+    rt: &impl World,
+    session: Session,
+    entity: u64,
+    file: &[u8],
+    folder: &[u8],
+    out: &mut [u8],
+) -> Ended
     requires folder_len_bound { length folder.now + 32 ≤ 4096 }
     requires entity_bound { entity < 500 }
 {
     let part = sharing::share(session, entity, file, out);
     match part {
         Part::Nothing => Ended::Accepted,
-        Part::Bytes(n) => hand_out(folder, entity, &out[..n]),
+        Part::Bytes(n) => hand_out(rt, folder, entity, &out[..n]),
         // a file that the reading accepted, and room for every extract: it cannot be
-        Part::Refused(fault, place) => say::answer(Answer::Refused(fault, place)),
+        Part::Refused(fault, place) => say::answer(rt, Answer::Refused(fault, place)),
     }
 }
 
 // Ascending; the first that could not be done ends it.
-fn share_each(session: Session, file: &[u8], folder: &[u8], out: &mut [u8]) -> Ended
+fn share_each(
+    rt: &impl World,
+    session: Session,
+    file: &[u8],
+    folder: &[u8],
+    out: &mut [u8],
+) -> Ended
     requires { length folder.now + 32 ≤ 4096 }
 {
     let mut entity: u64 = 0;
     while entity < Session::LAST {
         entity += 1;
-        let ended = share_with(session, entity, file, folder, out);
+        let ended = share_with(rt, session, entity, file, folder, out);
         let Ended::Accepted = ended else {
             return ended;
         };
@@ -69,32 +85,32 @@ fn share_each(session: Session, file: &[u8], folder: &[u8], out: &mut [u8]) -> E
     Ended::Accepted
 }
 
-fn share_out(session: Session, file: &[u8], folder: &[u8]) -> Ended
+fn share_out(rt: &impl World, session: Session, file: &[u8], folder: &[u8]) -> Ended
     requires { length folder.now + 32 ≤ 4096 }
 {
     let mut out = held::output();
-    share_each(session, file, folder, &mut out)
+    share_each(rt, session, file, folder, &mut out)
 }
 
 // The reading's answer goes first.
-fn share_to(session: Session, folder: &[u8]) -> Ended
+fn share_to(rt: &impl World, session: Session, folder: &[u8]) -> Ended
     requires { length folder.now + 32 ≤ 4096 }
 {
     let mut input = held::input();
-    let taken = taking::file(Word::FIRST, &mut input);
+    let taken = taking::file(rt, Word::FIRST, &mut input);
     let Filled::Bytes(_, n) = taken else {
         return Ended::Undone;
     };
-    let ended = say::answer(session.read(&input[..n]));
+    let ended = say::answer(rt, session.read(&input[..n]));
     let Ended::Accepted = ended else {
         return ended;
     };
-    share_out(session, &input[..n], folder)
+    share_out(rt, session, &input[..n], folder)
 }
 
-pub(crate) fn share(session: Session) -> Ended {
+pub(crate) fn share(rt: &impl World, session: Session) -> Ended {
     let mut folder = io::buffer();
-    let length = taking::name(Word::SECOND, &mut folder);
+    let length = taking::name(rt, Word::SECOND, &mut folder);
     if length == 0 {
         return Ended::Undone;
     }
@@ -102,5 +118,5 @@ pub(crate) fn share(session: Session) -> Ended {
         saying::wrong(&folder[..length], b"the name of a folder is too long");
         return Ended::Undone;
     }
-    share_to(session, &folder[..length])
+    share_to(rt, session, &folder[..length])
 }

@@ -5,10 +5,12 @@ ghost use Rattle.intake.specs.Looking.{LookedOn, LongSoFar, LookedThrough, Told,
 use crate::held::Size;
 use files::taking::{Failure, Filled, Readable, Source};
 use looking::{Form, Look};
+use std::fs::File;
+use std::rt::Files;
 use tray::pieces::Known;
 
 // So many bytes are all of it; or it is longer, with what is told of it, always an answer, and all that was looked at. Each with its source after the last
-// piece. Or it could not be read.
+// piece, which is closed where this is let go. Or it could not be read.
 #[derive(Drop)]
 pub enum Took {
     Whole(usize, Source),
@@ -81,10 +83,7 @@ fn answered(
     ensures { Told form path.now body.now result }
 {
     match look_through(form, begun, source, path, body, input) {
-        Reached::End(after, seen) => {
-            after.close();
-            Took::Long(seen.answer(body), after, seen)
-        }
+        Reached::End(after, seen) => Took::Long(seen.answer(body), after, seen),
         Reached::Failed(failure) => Took::Failed(failure),
     }
 }
@@ -103,7 +102,6 @@ fn take_from(
     match look_on(begun, source, path, body, input) {
         Piece::Read(after, n, known) => {
             if after.has_ended() {
-                after.close();
                 return Took::Whole(n, after);
             }
             answered(form, known, after, path, body, input)
@@ -113,10 +111,16 @@ fn take_from(
 }
 
 // What stands under that name, its first piece into the buffer; the body is what the job is handed with it.
-pub fn take(form: Form, path: &[u8], body: &[u8], input: &mut [u8; Size::LONG]) -> Took
+pub fn take(
+    files: &impl Files<File = File>,
+    form: Form,
+    path: &[u8],
+    body: &[u8],
+    input: &mut [u8; Size::LONG],
+) -> Took
     ensures { Takes form path.now body.now input.new result }
 {
-    match Source::open(path) {
+    match Source::open(files, path) {
         Readable::At(source) => take_from(form, source, path, body, input),
         Readable::Failed(failure) => Took::Failed(failure),
     }

@@ -7,6 +7,8 @@ ghost use Rattle.intake.specs.Gathering.{PieceRead, ToEnd, entities_of, wrong_of
 
 use desk::Session;
 use files::taking::{Failure, Filled, Readable, Source};
+use std::fs::File;
+use std::rt::Files;
 use typed::roster::{Text, Wrong};
 use typed::words;
 use watch::Watch;
@@ -90,15 +92,25 @@ fn read_all(source: Source, path: &[u8], buffer: &mut [u8; PIECE]) -> Piece
     let mut before = source;
     loop {
         let piece = read_on(text, before, path, buffer);
-        let filled = piece.filled;
-        let Filled::Bytes(after, _) = filled else {
-            return piece;
-        };
-        if after.has_ended() {
-            return piece;
+        let known = piece.text;
+        match piece.filled {
+            Filled::Bytes(after, n) => {
+                if after.has_ended() {
+                    return Piece {
+                        filled: Filled::Bytes(after, n),
+                        text: known,
+                    };
+                }
+                before = after;
+                text = known;
+            }
+            Filled::Failed(failure) => {
+                return Piece {
+                    filled: Filled::Failed(failure),
+                    text: known,
+                };
+            }
         }
-        before = after;
-        text = piece.text;
     }
 }
 
@@ -107,11 +119,9 @@ fn listed_by(piece: Piece, entities: &mut [u64; Session::ROSTER]) -> Listed
     ensures { (result ≡ listed_by piece.filled (entities_of piece.text))
         × (entities.new ≡ laid_by result (entities_of piece.text) entities.old) }
 {
-    let filled = piece.filled;
-    match filled {
+    let text = piece.text;
+    match piece.filled {
         Filled::Bytes(source, _) => {
-            source.close();
-            let text = piece.text;
             let count = text.roster().closed().entities(entities);
             Listed::Entities(count, Basis::Typed(source))
         }
@@ -130,19 +140,23 @@ fn without_text(listed: Listed) -> Roll
 }
 
 // What the word lists: all, or the text under that name.
-pub fn gather(path: &[u8], entities: &mut [u64; Session::ROSTER]) -> Roll
+pub fn gather(
+    files: &impl Files<File = File>,
+    path: &[u8],
+    entities: &mut [u64; Session::ROSTER],
+) -> Roll
     ensures { Gathers path.now result.listed result.text entities.old entities.new }
 {
     if words::is(path, b"all") {
         let count = everyone(entities);
         return without_text(Listed::Entities(count, Basis::Everyone));
     }
-    match Source::open(path) {
+    match Source::open(files, path) {
         Readable::At(source) => {
             let mut buffer = io::large_buffer();
             let piece = read_all(source, path, &mut buffer);
-            let listed = listed_by(piece, entities);
             let text = piece.text;
+            let listed = listed_by(piece, entities);
             Roll { listed, text }
         }
         Readable::Failed(failure) => without_text(Listed::Failed(failure)),

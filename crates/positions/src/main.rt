@@ -1,34 +1,38 @@
 // Prints the positions that the file on standard input makes, or why it is refused.
 #![tactic(auto)]
+
 use files::ending::Ended;
 use files::taking::Taken;
-use files::{ending, standard};
-use libc::{STDERR_FILENO, STDOUT_FILENO};
+use files::{ending, saying, standard};
 use listing::Listing;
+use std::io::Error;
 
 // The word that says where the launcher listens.
 const LAUNCHER: usize = 1;
 
+// Standard error.
+const STDERR: i32 = 2;
+
 // One byte more than the program takes shows that there was more.
 const PAST_LIMIT: usize = Listing::INPUT + 1;
 
-// A call of the system failed on standard input or output; errno says why.
-fn failed(what: &[u8]) -> Ended {
-    io::write_all(STDERR_FILENO, b"positions: ");
-    os::fail(what);
+// A call of the system failed on standard input or output; the error says why.
+fn failed(what: &[u8], error: &Error) -> Ended {
+    io::write_all(STDERR, b"positions: ");
+    saying::fail(what, error);
     Ended::Undone
 }
 
-fn serve() -> Ended {
+fn serve(rt: &(impl Input + Print)) -> Ended {
     let mut file = [0u8; PAST_LIMIT];
-    let taken = standard::input(&mut file);
-    let Taken::Bytes(n) = taken else {
-        return failed(b"standard input");
+    let n = match standard::input(rt, &mut file) {
+        Taken::Bytes(n) => n,
+        Taken::Failed(error) => return failed(b"standard input", &error),
     };
     let mut out = [0u8; Listing::ROOM];
     let written = listing::positions(&file[..n], &mut out);
-    if !io::write_all(STDOUT_FILENO, &out[..written]) {
-        return failed(b"standard output");
+    if let Err(error) = rt.write_all(&out[..written]) {
+        return failed(b"standard output", &error);
     }
     // a listing begins with its heading, a refusal with its word
     if out[0] == b'R' {
@@ -37,6 +41,6 @@ fn serve() -> Ended {
     Ended::Accepted
 }
 
-fn main() {
-    ending::tell(LAUNCHER, serve());
+fn main(rt: HostRuntime) {
+    ending::tell(&rt, LAUNCHER, serve(&rt));
 }
