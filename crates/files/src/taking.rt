@@ -66,7 +66,9 @@ pub enum Filled {
 }
 
 // The system is asked by text: a name that is none cannot be.
-pub fn text(path: &[u8]) -> Result<&str> {
+pub fn text(path: &[u8]) -> Result<&str>
+    ensures { IfOk result (λ text. text.now ≡ path.now) }
+{
     match str::from_utf8(path) {
         Ok(text) => Ok(text),
         Err(_) => Err(Error::new(
