@@ -7,13 +7,7 @@ ghost use Rattle.export.specs.Spoken.{delivered_of};
 use crate::{Spoken, currency, speak_output};
 
 // The tray of a company's file, under this LO body.
-#[unsafe(no_mangle)]
-pub extern "C" fn shaydhoqel_company(
-    dollars: bool,
-    lo: &[u8],
-    file: &[u8],
-    out: &mut [u8],
-) -> Spoken
+pub fn shaydhoqel_company(dollars: bool, lo: &[u8], file: &[u8], out: &mut [u8]) -> Spoken
     ensures { delivered_of (company (currency_if dollars) lo.now file.now out.old)
         ≡ record { spoken = result; lent = out.new } }
 {

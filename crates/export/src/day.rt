@@ -47,8 +47,7 @@ fn present_all(session: Session, ends: &[u64], files: &[u8], answers: &mut [u64]
 
 // File i is the bytes of `files` from the end of the one before up to ends[i]. The opening's answer comes back; where it is accepted, the
 // others stand in `answers`, two numbers each, and the figures of the cells at the end in `figures`, at the indices of `Figure`.
-#[unsafe(no_mangle)]
-pub extern "C" fn shaydhoqel_day(
+pub fn shaydhoqel_day(
     date: u64,
     dollars: bool,
     entities: &[u64],
@@ -58,8 +57,8 @@ pub extern "C" fn shaydhoqel_day(
     figures: &mut [i64],
 ) -> Spoken
     ensures { day_of date dollars entities.now ends.now files.now
-        record { answers = answers.entry.now; figures = figures.old }
-        ≡ record { spoken = result; lent = record { answers = answers.exit.now; figures = figures.new } } }
+        record { answers = answers.old; figures = figures.old }
+        ≡ record { spoken = result; lent = record { answers = answers.new; figures = figures.new } } }
 {
     let opened = Session::open(date, currency(dollars), entities);
     let answer = opened.answer;
@@ -73,8 +72,7 @@ pub extern "C" fn shaydhoqel_day(
 }
 
 // The listing of the session at the end of such a day, whatever the last answer was: 0 and the number of bytes, or the opening's refusal.
-#[unsafe(no_mangle)]
-pub extern "C" fn shaydhoqel_day_listing(
+pub fn shaydhoqel_day_listing(
     date: u64,
     dollars: bool,
     entities: &[u64],

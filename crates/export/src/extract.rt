@@ -8,8 +8,7 @@ use desk::Session;
 use paper::answer::Answer;
 
 // An extract in a session opened with this date, currency and list of entities.
-#[unsafe(no_mangle)]
-pub extern "C" fn shaydhoqel_extract(
+pub fn shaydhoqel_extract(
     date: u64,
     dollars: bool,
     entities: &[u64],

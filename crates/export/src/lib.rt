@@ -1,5 +1,6 @@
-// The library for programs in Rust and C: functions on numbers and byte slices.
+// The library for programs in Rust, and, by `export_c`, in C: functions on numbers and byte slices.
 #![tactic(auto)]
+
 ghost use Rattle.std.specs.Prelude.{◌≡◌, List, ℕ, min};
 ghost use Rattle.paper.specs.Answers.{said, number_of};
 ghost use Rattle.paper.specs.Buffers.{told};
@@ -102,8 +103,7 @@ fn speak_output(output: Output) -> Spoken
 }
 
 // A file read in a session opened with this date, currency and list of entities: 0 and the number of records, or the refusal.
-#[unsafe(no_mangle)]
-pub extern "C" fn shaydhoqel_read(date: u64, dollars: bool, entities: &[u64], file: &[u8]) -> Spoken
+pub fn shaydhoqel_read(date: u64, dollars: bool, entities: &[u64], file: &[u8]) -> Spoken
     ensures { read_of date dollars entities.now file.now ≡ record { spoken = result; lent = tt } }
 {
     let opened = rules::open(date, currency(dollars), entities);
@@ -117,8 +117,7 @@ pub extern "C" fn shaydhoqel_read(date: u64, dollars: bool, entities: &[u64], fi
 }
 
 // What the program `positions` prints for this input, and how many bytes that is.
-#[unsafe(no_mangle)]
-pub extern "C" fn shaydhoqel_listing(input: &[u8], out: &mut [u8; Listing::ROOM]) -> u64
+pub fn shaydhoqel_listing(input: &[u8], out: &mut [u8; Listing::ROOM]) -> u64
     ensures { Written (positions_of input.now) result out.old out.new }
 {
     listing::positions(input, out) as u64

@@ -77,8 +77,7 @@ fn hand_texts(file: &[u8], texts: &mut [u64])
 
 // A file received by the desk of an entity, in a session opened with this date, currency and list of entities: 0 and the number of records,
 // or the refusal.
-#[unsafe(no_mangle)]
-pub extern "C" fn shaydhoqel_receive(
+pub fn shaydhoqel_receive(
     date: u64,
     dollars: bool,
     entities: &[u64],
@@ -98,8 +97,7 @@ pub extern "C" fn shaydhoqel_receive(
 }
 
 // Where the text of the reason in one record of such a file stands.
-#[unsafe(no_mangle)]
-pub extern "C" fn shaydhoqel_show(
+pub fn shaydhoqel_show(
     date: u64,
     dollars: bool,
     entities: &[u64],
@@ -121,8 +119,7 @@ pub extern "C" fn shaydhoqel_show(
 }
 
 // The same of all its records, asked once: two numbers for each in `texts`, source and byte, and 0 and the number of records.
-#[unsafe(no_mangle)]
-pub extern "C" fn shaydhoqel_reasons(
+pub fn shaydhoqel_reasons(
     date: u64,
     dollars: bool,
     entities: &[u64],

@@ -8,8 +8,7 @@ use desk::Session;
 use paper::answer::Answer;
 
 // A file built in a session opened with this date, currency and list of entities.
-#[unsafe(no_mangle)]
-pub extern "C" fn shaydhoqel_build(
+pub fn shaydhoqel_build(
     date: u64,
     dollars: bool,
     entities: &[u64],
@@ -32,8 +31,7 @@ pub extern "C" fn shaydhoqel_build(
 }
 
 // The tray of a file, in such a session.
-#[unsafe(no_mangle)]
-pub extern "C" fn shaydhoqel_strip(
+pub fn shaydhoqel_strip(
     date: u64,
     dollars: bool,
     entities: &[u64],
