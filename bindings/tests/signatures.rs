@@ -1,6 +1,6 @@
-//! Signatures stand by hand in `crates/export`, `include/desk.h` and `src/calls.rs`: they are compared, and with them the structs of
-//! answers. So are the constants, which stand in `src/lib.rs`, `src/refusal.rs` and `python/shaydhoqel.py` besides. What Python declares
-//! of the functions is compared in its own tests.
+//! Signatures stand by hand in `crates/export_c`, `include/desk.h` and `src/calls.rs`: they are compared, and with them the structs of
+//! answers, those of `crates/export`. So are the constants, which stand in `src/lib.rs`, `src/refusal.rs` and `python/shaydhoqel.py`
+//! besides. What Python declares of the functions is compared in its own tests.
 
 mod declarations;
 
@@ -101,14 +101,14 @@ fn declared(export: &str, header: &str, calls: &str) -> [Declarations; 3] {
 
 #[test]
 fn functions_and_structs() {
-    let export = sources("export");
+    let export = sources("export_c") + &sources("export");
     let declared = declared(
         &export,
         &file("include/desk.h"),
         &file("bindings/src/calls.rs"),
     );
     assert_the_same(&declared);
-    let marks = ["#[no_mangle]", "#[repr(C)]"].map(|mark| export.matches(mark).count());
+    let marks = ["#[unsafe(no_mangle)]", "#[repr(C)]"].map(|mark| export.matches(mark).count());
     assert_eq!(declared[0].len(), marks[0] + marks[1], "not all were read");
 }
 
@@ -195,7 +195,7 @@ const EXPORT: &str = "
     #[repr(C)]
     pub struct Spoken { pub number: u64, pub place: u64 }
     // A function to try.
-    #[no_mangle]
+    #[unsafe(no_mangle)]
     pub extern \"C\" fn shaydhoqel_tried(date: u64, entity: u64, file: &[u8], out: &mut [i64], marks: &[bool; Session::ROSTER]) -> Spoken
         ensures { λ r. ⌜ r ≡ tried (date) ⌝ }
     {}";
@@ -251,7 +251,7 @@ fn differences_in_export_are_found() {
         "Session::ROSTER => 499",
         "-> Spoken => -> u64",
         "_tried( => _other(",
-        "#[no_mangle] => ",
+        "#[unsafe(no_mangle)] => ",
     ];
     assert_found(0, "shaydhoqel_tried", &exchanges);
     let fields = "number: u64, pub place: u64 => place: u64, pub number: u64";

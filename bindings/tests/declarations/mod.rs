@@ -171,7 +171,9 @@ fn lent(parameter: &str) -> Vec<String> {
 pub fn of_export(text: &str, constants: &Constants) -> Declarations {
     // there `Shown` is the desk's own, which holds no numbers
     let code = plain(text).replace("SpokenText", "Shown");
-    let functions = code.split("#[no_mangle] pub extern \"C\" fn ").skip(1);
+    let functions = code
+        .split("#[unsafe(no_mangle)] pub extern \"C\" fn ")
+        .skip(1);
     let functions = functions.map(|text| {
         let (name, parameters) = rust_function(text, constants);
         (
