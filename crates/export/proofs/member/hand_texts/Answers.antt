@@ -1,0 +1,19 @@
+use Rattle.std.proofs.Common.{arith, refl, rules, sym, ◌-◌, ◌∙◌, ◌≡◌}
+use native.Mathlib.Nat.{sub-zero}
+use Rattle.export.proofs.Texts.{one_more, no_more}
+use Rattle.export.proofs.member.hand_texts.Goals as goal
+
+pub loop-i-preserved : goal.loop-i-preserved
+loop-i-preserved c =
+    record {
+      long = omega (arith, c.hand_pair.auto.pairs);
+      left = c.loop-i.invariant.left
+          ∙ one_more _ _ _ c.loop-i.texts c.loop-i-test.true c.find.ensures c.speak_text-text.ensures c.hand_pair.ensures;
+    }
+
+pub returns : goal.returns
+returns c =
+    sym (c.loop-i.invariant.left ∙ no_more _ _ _ _ c.loop-i-test.false)
+
+pub loop-i-init : goal.loop-i-init
+loop-i-init c = record { long = refl; left = rw sub-zero }

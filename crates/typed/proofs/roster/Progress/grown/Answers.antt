@@ -1,0 +1,7 @@
+use Rattle.std.proofs.Common.{rules}
+use Rattle.typed.specs.Rosters.{progress_with}
+use Rattle.typed.proofs.roster.Progress.grown.Goals as goal
+
+pub returns : goal.returns
+unfolding progress_with
+returns c = rw c.grown.ensures.0
