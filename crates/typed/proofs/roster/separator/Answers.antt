@@ -19,7 +19,7 @@ returns-in_default c = apart c.args.b four (omega arith)
 
 pub returns-in_default-2 : goal.returns-in_default-2
 unfolding separator among
-returns-in_default-2 c = apart c.args.b four (omega arith)
+returns-in_default-2 c = apart c.args.b four (omega arith, (omega arith, others c.in_default.in_default-own.rest.1))
 
 pub returns-in-9 : goal.returns-in-9
 unfolding separator among
