@@ -13,7 +13,7 @@ use Rattle.paper.specs.declared.record.Kind.{Kind}
 use Rattle.paper.specs.declared.record.Kind.TheVariants.{FileHeader, BatchHeader, Individual, Additional, BatchControl, FileControl}
 use Rattle.paper.specs.declared.rules.Rules.{Rules}
 use Rattle.paper.specs.Answers.{accepted}
-use Rattle.paper.specs.Checks.{wrong, fine, ◌also◌}
+use Rattle.paper.specs.Checks.{wrong, fine}
 use Rattle.paper.specs.Fields.{field, within, every, good, digits, same, is, spells}
 use Rattle.paper.specs.Dates.{date_field}
 use Rattle.paper.specs.Entities.{of_currency, entity_field, on_roster}
@@ -21,7 +21,7 @@ use Rattle.paper.specs.Kinds.{kind_of, code_of, known, allowed}
 use Rattle.paper.specs.Records.{ReadingRules, in_house, member, member_field, number_good, batch_header, amount_of, counter_good, addressed, destination, transfer, individual}
 use Rattle.paper.specs.declared.record.Tally.{Tally}
 use Rattle.paper.specs.Controls.{batch_control, blocks, file_control}
-use Rattle.paper.specs.Reading.{State, start, fields, judged, at, parts, records_of, length_good, reading_by, reading}
+use Rattle.paper.specs.Reading.{State, start, fields, judged, parts, records_of, length_good, reading_by, reading}
 use Rattle.paper.specs.Writing.{joined}
 use Rattle.paper.specs.Demands.{Faultless}
 use Rattle.paper.proofs.Types.{each_kind}

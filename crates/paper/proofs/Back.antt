@@ -1,5 +1,5 @@
 -- Building from a stripped file and its own header gives the file exactly when it is numbered this way and its free control positions are blank.
-use Prim.Native.Nat.{ℕ, suc, ◌+◌, ◌/◌}
+use Prim.Native.Nat.{ℕ, suc, ◌/◌}
 use native.Mathlib.Omega.{arith}
 use mathlib.Core.List.{[], List, ◌∷◌, ◌++◌, map, head-eq_of_cons-eq, tail-eq_of_cons-eq}
 use mathlib.Core.Logic.{◌↔◌}

@@ -11,8 +11,8 @@ use Rattle.paper.specs.declared.record.Kind.{Kind}
 use Rattle.paper.specs.declared.record.Kind.TheVariants.{FileHeader, BatchHeader, Individual, Additional, BatchControl, FileControl, Other}
 use Rattle.paper.specs.Answers.{accepted}
 use Rattle.paper.specs.Checks.{fine}
-use Rattle.paper.specs.Fields.{field, among, good, same, value_from, number}
-use Rattle.paper.specs.Kinds.{opens_batch, is_individual, kind, kind_of}
+use Rattle.paper.specs.Fields.{field, among, same, value_from, number}
+use Rattle.paper.specs.Kinds.{opens_batch, is_individual, kind_of}
 use Rattle.paper.specs.Records.{ReadingRules, number_in, counter_good, individual}
 use Rattle.paper.specs.Reading.{State, start, last_individual, counter_next, seen_next, state_next, next, fields, judged, records_of, reading_by}
 use Rattle.paper.specs.Demands.{Faultless}

@@ -20,7 +20,6 @@ use Rattle.paper.specs.Writing.{numbered, batch_control_of, file_control_of, owe
 use Rattle.paper.specs.Trays.{batches_after, individuals_after, numbered_by, numbering, zeroed, marked, stripped}
 use Rattle.paper.specs.Demands.{Faultless}
 use Rattle.paper.proofs.Lists.{Sized, kind_numbered}
-use Rattle.paper.proofs.Sums.{own}
 use Rattle.paper.proofs.Accepted.{control_read, total_read, Follows, file-begins, batch-opens, file-ends, first-individual, its-additional, next_individual, batch-closes, judged_facts, after_last}
 use Rattle.paper.proofs.Normal.{normal, normals, numbered_zeroed, with_individual_numbered, control_normal, total_normal}
 

@@ -1,4 +1,4 @@
-use Rattle.std.proofs.Common.{rules, sym}
+use Rattle.std.proofs.Common.{sym}
 use Rattle.watch.proofs.Watching.{on_come, on_still, on_hit}
 use Rattle.watch.proofs.Watch.on.Goals as goal
 
