@@ -1,14 +1,14 @@
 -- The rules of an individual record, each asked where those before it hold: the first that does not is the answer.
 use Prim.Native.Nat.{ℕ}
-use mathlib.Core.Bool.{Bool, true, false, not, ◌&&◌, ◌||◌, or-true, and-false}
+use mathlib.Core.Bool.{Bool, true, false, ◌&&◌, ◌||◌, or-true}
 use mathlib.Core.List.{List}
-use mathlib.Core.Path.{◌≡◌, refl, sym, ap, ◌∙◌}
+use mathlib.Core.Path.{◌≡◌, refl, sym, ◌∙◌}
 use native.Mathlib.Omega.{arith}
-use borrow.Author.Tests.{lt-ltb, le-ltb, ltb-false}
-use lib.Dec.{T, ltb}
+use borrow.Author.Tests.{lt-ltb, le-ltb}
+use lib.Dec.{ltb}
 use Rattle.paper.specs.declared.rules.Currency.{Currency}
 use Rattle.paper.specs.declared.rules.Currency.TheVariants.{Pesos, Dollars}
-use Rattle.paper.specs.Checks.{Check, fine, wrong, need, ◌also◌}
+use Rattle.paper.specs.Checks.{fine, wrong, need, ◌also◌}
 use Rattle.paper.specs.Entities.{of_currency, entity_field}
 use Rattle.paper.specs.Fields.{field, digits, blank, is, same, number}
 use Rattle.paper.specs.Kinds.{code_of, known}

@@ -1,5 +1,5 @@
 -- The numbers of an individual record, from the words in which they stand.
-use Rattle.std.proofs.Common.{◌≡◌, ℕ, ◌+◌, ◌*◌, ◌%◌, ◌<◌, Bool, true, false, ◌&&◌, T, List, ◌++◌, length, take, drop, sym, refl, ap, ◌∙◌, arith, drop_at}
+use Rattle.std.proofs.Common.{◌≡◌, ℕ, ◌+◌, ◌*◌, ◌%◌, Bool, true, false, List, ◌++◌, length, take, drop, sym, refl, ap, ◌∙◌, arith, drop_at}
 use mathlib.Core.Bool.{and-false}
 use Rattle.paper.specs.Fields.{field, digit, digits, value, number}
 use Rattle.paper.specs.Entities.{entity_value}

@@ -1,5 +1,6 @@
 // One pass over a file: the places of the records that go to one entity, in order.
 #![tactic(auto)]
+
 ghost use Rattle.std.specs.Prelude.{◌≡◌, ℕ, List, length, set};
 ghost use Rattle.paper.specs.Extract.{is_to};
 ghost use Rattle.picking.specs.Notes.{header_waits, record_goes, record_passes, notes_with};

@@ -1,5 +1,6 @@
 // Why a debit came back: the additional record of a rejection, and where the text of its reason stands.
 #![tactic(auto)]
+
 ghost use Rattle.std.specs.Prelude.{◌≡◌, ◌*◌, ◌-◌, ◌≤◌, ◌<◌, length, take, drop};
 ghost use Rattle.paper.specs.Answers.{accepted, require, said};
 ghost use Rattle.paper.specs.Receiving.{explains, explains_at, text_at, shown_if, text_in};

@@ -10,7 +10,7 @@ use Rattle.paper.specs.declared.record.Kind.{Kind}
 use Rattle.paper.specs.declared.record.Kind.TheVariants.{BatchHeader, BatchControl, FileControl}
 use Rattle.paper.specs.Checks.{fine}
 use Rattle.paper.specs.Fields.{every, good}
-use Rattle.paper.specs.Kinds.{kind, kind_of, allowed}
+use Rattle.paper.specs.Kinds.{kind_of, allowed}
 use Rattle.paper.specs.Records.{ReadingRules, batch_header}
 use Rattle.paper.specs.Controls.{blocks, file_control}
 use Rattle.paper.specs.Reading.{Reckoning, counted, State, before_next, state_next, next, fields, judged}

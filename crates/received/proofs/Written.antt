@@ -1,13 +1,12 @@
 -- The controls that are written are without fault by what they count, where that fits their fields.
 use Prim.Native.Nat.{ℕ, ◌<◌, ◌^◌}
-use mathlib.Core.Bool.{Bool, true, false}
 use mathlib.Core.List.{List, [], ◌∷◌, append_assoc, append-nil}
 use mathlib.Core.Path.{◌≡◌, refl}
 use lib.Dec.{T, eqb, eqb_refl}
 use lib.ListN.{length, take, drop, length-take, length-drop}
 use Rattle.paper.specs.declared.record.Kind.TheVariants.{BatchControl, FileControl}
 use Rattle.paper.specs.declared.record.Tally.{Tally}
-use Rattle.paper.specs.Checks.{Check, fine, wrong, need, ◌also◌}
+use Rattle.paper.specs.Checks.{fine}
 use Rattle.paper.specs.Fields.{bytes, field, every, good, among, same}
 use Rattle.paper.specs.Kinds.{kind, kind_of}
 use Rattle.paper.specs.Controls.{batch_control, blocks, file_control}

@@ -1,7 +1,7 @@
 -- Numbers in as many digits as they need: how many these are, and that they spell the number.
 use Prim.Native.Nat.{ℕ, zero, suc, ◌+◌, ◌-◌, ◌≤◌, ◌<◌, ◌/◌, ◌%◌, ◌^◌}
 use mathlib.Core.Bool.{Bool, true, false, cond}
-use mathlib.Core.List.{List, [], ◌∷◌, ◌++◌}
+use mathlib.Core.List.{[], ◌∷◌, ◌++◌}
 use mathlib.Core.Path.{◌≡◌, refl, ◌∙◌}
 use native.Mathlib.Nat.{pow-zero, pow-suc, mod-eq_of_lt}
 use native.Mathlib.Omega.{arith}
@@ -10,7 +10,7 @@ use lib.IntN.{ℤ, pos, negsuc, nat_abs}
 use lib.Signed.{lt_z}
 use lib.ListN.{length, get_or, length-append, get_or-append}
 use borrow.Author.Tests.{lt-ltb, le-ltb, ltb-false, ltb-true}
-use Rattle.paper.specs.Fields.{bytes, digit, digits, value}
+use Rattle.paper.specs.Fields.{bytes, digits, value}
 use Rattle.paper.specs.Writing.{spelled}
 use Rattle.paper.specs.Listing.{width_by, width, decimal, signed_decimal}
 use Rattle.paper.proofs.Lists.{length_spelled}

@@ -1,5 +1,6 @@
 // Texts and numbers put into a lent buffer.
 #![tactic(auto)]
+
 ghost use Rattle.std.specs.Prelude.{◌≡◌, ◌+◌, ◌*◌, ◌^◌, ◌≤◌, min, length, take, drop, nat_abs};
 ghost use Rattle.paper.specs.Writing.{spelled, blanks};
 ghost use Rattle.paper.specs.Listing.{width, decimal, signed_decimal};

@@ -1,4 +1,4 @@
-use Rattle.std.proofs.Common.{Bool, arith, false, pos, rules, true, ◌+ℤ◌, ◌≡◌}
+use Rattle.std.proofs.Common.{Bool, arith, false, pos, true, ◌+ℤ◌, ◌≡◌}
 use mir.Syntax.{w64}
 use mir.Val.{SFits, to_z, of_z}
 use mir.Facts.{to_z-of_z, to_z_pos}

@@ -1,4 +1,4 @@
-use Rattle.std.proofs.Common.{arith, length, refl, rules, sym, ◌*◌, ◌+◌, ◌-◌, ◌/◌, ◌<◌, ◌∙◌, ◌≡◌, ◌≤◌}
+use Rattle.std.proofs.Common.{arith, length, refl, sym, ◌/◌, ◌<◌, ◌∙◌}
 use Rattle.ledger.proofs.Touches.{more, touched_at, touched_both}
 use Rattle.ledger.proofs.Walk.{none_left, passes, posts}
 use borrow.Enum.Refused.{opened}

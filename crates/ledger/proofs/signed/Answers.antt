@@ -1,4 +1,4 @@
-use Rattle.std.proofs.Common.{arith, rules}
+use Rattle.std.proofs.Common.{arith}
 use mir.Syntax.{w64}
 use mir.Facts.{to_z_pos}
 use Rattle.ledger.proofs.signed.Goals as goal

@@ -1,4 +1,3 @@
-use Rattle.std.proofs.Common.{rules}
 use Rattle.picking.proofs.Moving.{record_goes_lem}
 use Rattle.picking.proofs.goes.Goals as goal
 

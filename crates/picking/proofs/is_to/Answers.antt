@@ -1,4 +1,3 @@
-use Rattle.std.proofs.Common.{rules}
 use Rattle.paper.specs.Extract.{is_to}
 use Rattle.picking.proofs.is_to.Goals as goal
 

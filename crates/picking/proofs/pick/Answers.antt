@@ -1,4 +1,4 @@
-use Rattle.std.proofs.Common.{arith, rules, ◌-◌, ◌∙◌}
+use Rattle.std.proofs.Common.{arith, rules, ◌∙◌}
 use Rattle.paper.proofs.Accepted.{accepted_facts}
 use Rattle.picking.proofs.Rising.{notes_ordered, in_hand_fits}
 use Rattle.picking.proofs.Passing.{begun, turn, ended}

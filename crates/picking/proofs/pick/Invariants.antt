@@ -1,4 +1,4 @@
-use Rattle.std.proofs.Common.{◌-◌, ◌∙◌}
+use Rattle.std.proofs.Common.{◌-◌}
 use Rattle.picking.proofs.Passing.{Passing}
 use Rattle.picking.proofs.pick.Given as goal
 

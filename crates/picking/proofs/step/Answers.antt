@@ -1,4 +1,3 @@
-use Rattle.std.proofs.Common.{rules}
 use Rattle.picking.proofs.Moving.{header_noted, individual_noted, other_noted, additional_noted, additional_left, nothing_noted_lem}
 use borrow.Enum.Refused.{opened}
 use Rattle.picking.proofs.step.Goals as goal

@@ -1,4 +1,3 @@
-use Rattle.std.proofs.Common.{rules}
 use Rattle.picking.proofs.Moving.{header_waits_lem}
 use Rattle.picking.proofs.waits.Goals as goal
 

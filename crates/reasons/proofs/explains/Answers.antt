@@ -1,4 +1,4 @@
-use Rattle.std.proofs.Common.{[], false, refl, rules, ◌∙◌, ◌∷◌}
+use Rattle.std.proofs.Common.{[], false, refl, ◌∙◌, ◌∷◌}
 use Rattle.paper.specs.declared.record.Kind.{Kind}
 use Rattle.paper.specs.Receiving.{explains}
 use Rattle.field.proofs.Arms.{in_kinds}

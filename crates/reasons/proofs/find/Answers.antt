@@ -1,4 +1,4 @@
-use Rattle.std.proofs.Common.{rules, sym, ◌∙◌}
+use Rattle.std.proofs.Common.{sym, ◌∙◌}
 use Rattle.reasons.proofs.Parts.{past_end, no_reason, reason}
 use Rattle.reasons.proofs.find.Goals as goal
 

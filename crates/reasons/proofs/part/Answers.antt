@@ -1,4 +1,3 @@
-use Rattle.std.proofs.Common.{rules}
 use Rattle.reasons.proofs.Parts.{past, left}
 use Rattle.std.proofs.Math.Nat.{add-sub_cancel_left}
 use Rattle.reasons.proofs.part.Goals as goal

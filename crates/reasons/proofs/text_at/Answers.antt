@@ -1,4 +1,4 @@
-use Rattle.std.proofs.Common.{rules, sym}
+use Rattle.std.proofs.Common.{sym}
 use Rattle.paper.specs.Receiving.{text_at}
 use Rattle.reasons.proofs.text_at.Goals as goal
 

@@ -1,4 +1,4 @@
-use Rattle.std.proofs.Common.{append-nil, arith, drop_of_length-le, length, length-set, rules, take_all, ◌++◌, ◌-◌, ◌∙◌, ◌≡◌, ◌≤◌}
+use Rattle.std.proofs.Common.{append-nil, arith, drop_of_length-le, length, length-set, take_all, ◌∙◌}
 use Rattle.paper.specs.Writing.{blanks}
 use Rattle.writing.proofs.Stores.{length_blanks, blank_turn}
 use Rattle.writing.proofs.blanks.Goals as goal

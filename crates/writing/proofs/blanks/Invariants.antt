@@ -1,4 +1,4 @@
-use Rattle.std.proofs.Common.{drop, length, take, ◌++◌, ◌-◌, ◌∙◌, ◌≡◌, ◌≤◌}
+use Rattle.std.proofs.Common.{drop, length, take, ◌++◌, ◌-◌, ◌≡◌, ◌≤◌}
 use Rattle.paper.specs.Writing.{blanks}
 use Rattle.writing.proofs.blanks.Given as goal
 

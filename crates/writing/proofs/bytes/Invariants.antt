@@ -1,4 +1,4 @@
-use Rattle.std.proofs.Common.{drop, length, take, ◌++◌, ◌-◌, ◌∙◌, ◌≡◌, ◌≤◌}
+use Rattle.std.proofs.Common.{drop, length, take, ◌++◌, ◌-◌, ◌≡◌, ◌≤◌}
 use Rattle.writing.proofs.bytes.Given as goal
 
 abbrev pub invariant-loop-i : goal.invariant-loop-i

@@ -1,4 +1,4 @@
-use Rattle.std.proofs.Common.{ap, arith, drop, length, refl, rules, take, ◌+◌, ◌-◌, ◌∙◌, ◌≡◌, ◌≤◌}
+use Rattle.std.proofs.Common.{ap, arith, drop, length, refl, take, ◌+◌, ◌∙◌, ◌≤◌}
 use Rattle.writing.specs.Laid.{laid}
 use Rattle.writing.proofs.Eights.{eight_further, all_copied}
 use Rattle.writing.proofs.copy.Goals as goal

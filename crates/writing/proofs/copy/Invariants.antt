@@ -1,4 +1,4 @@
-use Rattle.std.proofs.Common.{length, min, ◌+◌, ◌-◌, ◌∙◌, ◌≡◌, ◌≤◌}
+use Rattle.std.proofs.Common.{length, min, ◌-◌, ◌≡◌, ◌≤◌}
 use Rattle.writing.proofs.Eights.{up_to}
 use Rattle.writing.proofs.copy.Given as goal
 

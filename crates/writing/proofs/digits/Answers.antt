@@ -1,4 +1,4 @@
-use Rattle.std.proofs.Common.{append-nil, arith, drop_of_length-le, length, length-set, refl, rules, sym, ◌++◌, ◌∙◌, ◌≡◌, ◌≤◌}
+use Rattle.std.proofs.Common.{append-nil, arith, drop_of_length-le, length, length-set, refl, rules, sym, ◌∙◌, ◌≡◌}
 use Rattle.paper.specs.Writing.{spelled}
 use Rattle.writing.proofs.Stores.{digit_back}
 use Rattle.writing.proofs.digits.Goals as goal

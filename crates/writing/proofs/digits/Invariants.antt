@@ -1,4 +1,4 @@
-use Rattle.std.proofs.Common.{drop, length, ◌++◌, ◌∙◌, ◌≡◌, ◌≤◌}
+use Rattle.std.proofs.Common.{drop, length, ◌++◌, ◌≡◌, ◌≤◌}
 use Rattle.paper.specs.Writing.{spelled}
 use Rattle.writing.proofs.digits.Given as goal
 

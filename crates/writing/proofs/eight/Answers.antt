@@ -1,4 +1,4 @@
-use Rattle.std.proofs.Common.{arith, length-set, rules}
+use Rattle.std.proofs.Common.{arith, length-set}
 use Rattle.writing.proofs.Eights.{eight_stored}
 use Rattle.writing.proofs.eight.Goals as goal
 

@@ -1,4 +1,3 @@
-use Rattle.std.proofs.Common.{rules}
 use Rattle.paper.specs.Writing.{spelled}
 use Rattle.paper.proofs.Lists.{length_spelled}
 use Rattle.writing.proofs.Laying.{part_filled}

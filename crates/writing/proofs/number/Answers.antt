@@ -1,4 +1,4 @@
-use Rattle.std.proofs.Common.{arith, rules}
+use Rattle.std.proofs.Common.{arith}
 use Rattle.paper.specs.Listing.{decimal}
 use Rattle.paper.specs.Writing.{spelled}
 use Rattle.paper.proofs.Lists.{length_spelled}

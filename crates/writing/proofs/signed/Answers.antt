@@ -1,4 +1,4 @@
-use Rattle.std.proofs.Common.{ap, arith, false, length-append, nat_abs, pos, rules, true, ℕ, ℤ, ◌*◌, ◌++◌, ◌^◌, ◌∙◌, ◌≡◌, ◌≤◌}
+use Rattle.std.proofs.Common.{ap, arith, false, length-append, nat_abs, pos, true, ℕ, ℤ, ◌*◌, ◌++◌, ◌^◌, ◌∙◌, ◌≡◌, ◌≤◌}
 use lib.Signed.{lt_z}
 use mir.Syntax.{w64}
 use mir.Val.{to_z, of_z}

@@ -1,4 +1,3 @@
-use Rattle.std.proofs.Common.{rules}
 use Rattle.paper.specs.Writing.{blanks}
 use Rattle.writing.proofs.Laying.{part_filled}
 use Rattle.writing.proofs.Stores.{length_blanks}

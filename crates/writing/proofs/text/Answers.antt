@@ -1,4 +1,4 @@
-use Rattle.std.proofs.Common.{length, refl, rules, ◌+◌}
+use Rattle.std.proofs.Common.{length, refl, ◌+◌}
 use Rattle.writing.proofs.Laying.{part_laid}
 use Rattle.writing.proofs.text.Goals as goal
 

@@ -1,4 +1,3 @@
-use Rattle.std.proofs.Common.{◌-◌}
 use Rattle.writing.proofs.Decimals.{Counted}
 use Rattle.writing.proofs.width.Given as goal
 

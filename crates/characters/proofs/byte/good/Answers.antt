@@ -1,4 +1,3 @@
-use Rattle.std.proofs.Common.{◌∙◌}
 use Rattle.characters.proofs.Printed.{as_printed}
 use Rattle.characters.proofs.byte.good.Goals as goal
 

@@ -1,4 +1,4 @@
-use Rattle.std.proofs.Common.{arith, refl, ◌-◌}
+use Rattle.std.proofs.Common.{arith, refl}
 use Rattle.paper.specs.Fields.{digit}
 use Rattle.characters.proofs.Scan.{test_turn, test_end}
 use Rattle.characters.proofs.number.all_digits.Goals as goal

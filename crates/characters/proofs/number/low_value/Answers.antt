@@ -1,4 +1,4 @@
-use Rattle.std.proofs.Common.{arith, refl, ◌*◌, ◌+◌, ◌-◌, ◌^◌, ◌≤◌}
+use Rattle.std.proofs.Common.{arith, refl}
 use Rattle.characters.proofs.Value.{read_turn, read_end, small, grown}
 use Rattle.characters.proofs.number.low_value.Goals as goal
 
@@ -10,12 +10,11 @@ overflow_add-sum c =
     let l = c.loop-i in omega (arith, small l.i l.sum (omega arith) l.invariant.1)
 
 pub loop-i-preserved : goal.loop-i-preserved
-loop-i-preserved c =
-    (
-      omega arith,
-      grown c.loop-i.i c.loop-i.sum (omega arith) c.loop-i.invariant.1,
-      read_turn c.args.s.now c.loop-i.sum c.loop-i.i c.loop-i-test.true c.loop-i.invariant.2,
-    )
+loop-i-preserved c = (
+  omega arith,
+  grown c.loop-i.i c.loop-i.sum (omega arith) c.loop-i.invariant.1,
+  read_turn c.args.s.now c.loop-i.sum c.loop-i.i c.loop-i-test.true c.loop-i.invariant.2,
+)
 
 pub returns : goal.returns
 returns c t = let l = c.loop-i in read_end c.args.s.now l.sum l.i c.loop-i-test.false l.invariant.2 t

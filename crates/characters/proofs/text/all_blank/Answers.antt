@@ -1,4 +1,4 @@
-use Rattle.std.proofs.Common.{arith, eqb, refl, ◌-◌}
+use Rattle.std.proofs.Common.{arith, eqb, refl}
 use Rattle.characters.proofs.Scan.{test_turn, test_end}
 use Rattle.characters.proofs.text.all_blank.Goals as goal
 

@@ -1,4 +1,4 @@
-use Rattle.std.proofs.Common.{arith, refl, rules, ◌-◌}
+use Rattle.std.proofs.Common.{arith, refl}
 use Rattle.paper.specs.Fields.{good}
 use Rattle.characters.proofs.Scan.{test_turn, test_end}
 use Rattle.characters.proofs.text.all_good.Goals as goal

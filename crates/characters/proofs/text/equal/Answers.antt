@@ -1,4 +1,4 @@
-use Rattle.std.proofs.Common.{arith, refl, ◌-◌}
+use Rattle.std.proofs.Common.{arith, refl}
 use Rattle.characters.proofs.Scan.{compare_turn, compare_end, other_length}
 use Rattle.characters.proofs.text.equal.Goals as goal
 

@@ -1,4 +1,4 @@
-use Rattle.std.proofs.Common.{refl, rules}
+use Rattle.std.proofs.Common.{refl}
 use Rattle.paper.specs.Controls.{blocks}
 use Rattle.controls.proofs.file_control.blocks.Goals as goal
 

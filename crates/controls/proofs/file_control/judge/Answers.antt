@@ -1,4 +1,3 @@
-use Rattle.std.proofs.Common.{rules}
 use Rattle.paper.specs.Controls.{file_control}
 use Rattle.verdicts.proofs.Chain.{begun}
 use Rattle.controls.proofs.file_control.judge.Goals as goal

@@ -1,4 +1,4 @@
-use Rattle.std.proofs.Common.{refl, rules}
+use Rattle.std.proofs.Common.{refl}
 use Rattle.paper.specs.Controls.{plus}
 use Rattle.controls.proofs.tally.plus.Goals as goal
 

@@ -1,4 +1,4 @@
-use Rattle.std.proofs.Common.{refl, rules}
+use Rattle.std.proofs.Common.{refl}
 use Rattle.paper.specs.Controls.{with_additional}
 use Rattle.controls.proofs.tally.with_additional.Goals as goal
 

@@ -1,4 +1,3 @@
-use Rattle.std.proofs.Common.{rules}
 use Rattle.controls.proofs.Sides.{other_side}
 use Rattle.controls.proofs.tally.with_entry.Goals as goal
 

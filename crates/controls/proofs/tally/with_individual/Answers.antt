@@ -1,4 +1,4 @@
-use Rattle.std.proofs.Common.{rules, ◌∙◌}
+use Rattle.std.proofs.Common.{◌∙◌}
 use Rattle.paper.specs.Controls.{with_individual}
 use Rattle.paper.specs.Kinds.{code_of}
 use Rattle.paper.specs.Records.{amount_of}

@@ -1,4 +1,4 @@
-use Rattle.std.proofs.Common.{rules, sym}
+use Rattle.std.proofs.Common.{sym}
 use Rattle.paper.specs.Records.{additional, additional_by}
 use Rattle.entries.proofs.additional.judge.Goals as goal
 

@@ -1,4 +1,3 @@
-use Rattle.std.proofs.Common.{rules}
 use Rattle.paper.specs.Records.{additional05}
 use Rattle.verdicts.proofs.Chain.{begun}
 use Rattle.entries.proofs.additional.judge05.Goals as goal

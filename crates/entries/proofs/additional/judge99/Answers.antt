@@ -1,4 +1,3 @@
-use Rattle.std.proofs.Common.{rules}
 use Rattle.paper.specs.Records.{additional99}
 use Rattle.verdicts.proofs.Chain.{begun}
 use Rattle.entries.proofs.additional.judge99.Goals as goal

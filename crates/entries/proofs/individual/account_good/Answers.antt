@@ -1,4 +1,4 @@
-use Rattle.std.proofs.Common.{List, ap, ap₂, rules, sym, ℕ, ◌&&◌, ◌∙◌}
+use Rattle.std.proofs.Common.{List, ap, ap₂, sym, ℕ, ◌&&◌, ◌∙◌}
 use Rattle.paper.specs.Fields.{field, is}
 use Rattle.paper.specs.Records.{account_good}
 use Rattle.paper.proofs.Tests.{T_of}

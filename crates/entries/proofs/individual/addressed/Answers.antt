@@ -1,4 +1,4 @@
-use Rattle.std.proofs.Common.{Bool, List, eq-eqb, eqb, false, get_or, ne_eqb, rules, ℕ, ◌≡◌}
+use Rattle.std.proofs.Common.{Bool, List, eq-eqb, eqb, false, get_or, ne_eqb, ℕ, ◌≡◌}
 use Rattle.paper.specs.declared.rules.Reader.{Reader}
 use Rattle.paper.specs.declared.rules.Reader.TheVariants.{House, Desk}
 use Rattle.paper.specs.Checks.{need}

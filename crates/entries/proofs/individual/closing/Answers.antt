@@ -1,4 +1,4 @@
-use Rattle.std.proofs.Common.{ap, arith, false, le-ltb, lt-ltb, rules, sym, true, ◌∙◌, ◌≡◌}
+use Rattle.std.proofs.Common.{ap, arith, false, le-ltb, lt-ltb, sym, true, ◌∙◌, ◌≡◌}
 use Rattle.paper.specs.Checks.{fine}
 use Rattle.paper.specs.Fields.{field, blank, digits, same, number}
 use Rattle.paper.specs.Records.{information_good}
@@ -36,12 +36,11 @@ flag_good_lem c = sym c.flag-verdict.ensures ∙ ap check_of c.in_default.is
 
 pub returns-in_default-counter : goal.returns-in_default-counter
 unfolding judged_says HandsOn
-returns-in_default-counter c =
-    (
-      sequence_wrong _ _ _ (client_good (goal.at.returns-in_default-counter c).Else-blank) (information_so (goal.at.returns-in_default-counter c).Else-not-information_good) (flag_good_lem (goal.at.returns-in_default-counter c).In_default)
-          (sequence_other _ (sym c.counter.ensures ∙ c.in_default-counter.is)),
-      tt,
-    )
+returns-in_default-counter c = (
+  sequence_wrong _ _ _ (client_good (goal.at.returns-in_default-counter c).Else-blank) (information_so (goal.at.returns-in_default-counter c).Else-not-information_good) (flag_good_lem (goal.at.returns-in_default-counter c).In_default)
+      (sequence_other _ (sym c.counter.ensures ∙ c.in_default-counter.is)),
+  tt,
+)
 
 -- 80-94 are digits
 abbrev sequence : (c : In-Number) → (digits (field c.args.rec.now 80 94) ≡ true) × (number (field c.args.rec.now 88 94) ≡ c.in-Number.counter)
@@ -49,30 +48,27 @@ sequence c = sequence_digits _ (sym c.counter.ensures ∙ c.in-Number.is)
 
 pub returns-then-not-same : goal.returns-then-not-same
 unfolding judged_says HandsOn
-returns-then-not-same c =
-    (
-      sender_wrong _ _ _ (client_good (goal.at.returns-then-not-same c).Else-blank) (information_so (goal.at.returns-then-not-same c).Else-not-information_good) (flag_good_lem (goal.at.returns-then-not-same c).In_default) (sequence (goal.at.returns-then-not-same c).In-Number).0
-          (sym c.same.ensures ∙ c.if-not-same.true),
-      tt,
-    )
+returns-then-not-same c = (
+  sender_wrong _ _ _ (client_good (goal.at.returns-then-not-same c).Else-blank) (information_so (goal.at.returns-then-not-same c).Else-not-information_good) (flag_good_lem (goal.at.returns-then-not-same c).In_default) (sequence (goal.at.returns-then-not-same c).In-Number).0
+      (sym c.same.ensures ∙ c.if-not-same.true),
+  tt,
+)
 
 same_so : (c : Else-not-same) → same (field c.args.rec.now 80 87) (field c.args.header.now 80 87) ≡ true
 same_so c = sym c.same.ensures ∙ c.if-not-same.false
 
 pub returns-then-counter-previous : goal.returns-then-counter-previous
 unfolding judged_says HandsOn
-returns-then-counter-previous c =
-    (
-      counter_wrong _ _ _ (client_good (goal.at.returns-then-counter-previous c).Else-blank) (information_so (goal.at.returns-then-counter-previous c).Else-not-information_good) (flag_good_lem (goal.at.returns-then-counter-previous c).In_default) (sequence (goal.at.returns-then-counter-previous c).In-Number).0
-          (same_so (goal.at.returns-then-counter-previous c).Else-not-same) (le-ltb c.args.previous (number (field c.args.rec.now 88 94)) (omega (arith, (sequence (goal.at.returns-then-counter-previous c).In-Number).1, c.if-counter-previous.true))),
-      tt,
-    )
+returns-then-counter-previous c = (
+  counter_wrong _ _ _ (client_good (goal.at.returns-then-counter-previous c).Else-blank) (information_so (goal.at.returns-then-counter-previous c).Else-not-information_good) (flag_good_lem (goal.at.returns-then-counter-previous c).In_default) (sequence (goal.at.returns-then-counter-previous c).In-Number).0
+      (same_so (goal.at.returns-then-counter-previous c).Else-not-same) (le-ltb c.args.previous (number (field c.args.rec.now 88 94)) (omega (arith, (sequence (goal.at.returns-then-counter-previous c).In-Number).1, c.if-counter-previous.true))),
+  tt,
+)
 
 pub returns : goal.returns
 unfolding judged_says HandsOn entry_of
-returns c =
-    (
-      closing_good_lem _ _ _ (client_good (goal.at.returns c).Else-blank) (information_so (goal.at.returns c).Else-not-information_good) (flag_good_lem (goal.at.returns c).In_default) (sequence (goal.at.returns c).In-Number).0
-          (same_so (goal.at.returns c).Else-not-same) (lt-ltb c.args.previous (number (field c.args.rec.now 88 94)) (omega (arith, (sequence (goal.at.returns c).In-Number).1, c.if-counter-previous.false))),
-      simp (c.code.ensures, c.requires.destination_value.0, c.requires.destination_value.1, (sequence (goal.at.returns c).In-Number).1),
-    )
+returns c = (
+  closing_good_lem _ _ _ (client_good (goal.at.returns c).Else-blank) (information_so (goal.at.returns c).Else-not-information_good) (flag_good_lem (goal.at.returns c).In_default) (sequence (goal.at.returns c).In-Number).0
+      (same_so (goal.at.returns c).Else-not-same) (lt-ltb c.args.previous (number (field c.args.rec.now 88 94)) (omega (arith, (sequence (goal.at.returns c).In-Number).1, c.if-counter-previous.false))),
+  simp (c.code.ensures, c.requires.destination_value.0, c.requires.destination_value.1, (sequence (goal.at.returns c).In-Number).1),
+)

@@ -1,4 +1,4 @@
-use Rattle.std.proofs.Common.{Bool, List, ap, rules, sym, ℕ, ◌∙◌, ◌≡◌}
+use Rattle.std.proofs.Common.{Bool, List, ap, sym, ℕ, ◌∙◌, ◌≡◌}
 use Rattle.paper.specs.declared.rules.Currency.{Currency}
 use Rattle.paper.specs.declared.rules.Currency.TheVariants.{Pesos, Dollars}
 use Rattle.paper.specs.Entities.{entity_value, of_currency, entity}

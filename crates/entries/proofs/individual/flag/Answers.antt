@@ -1,4 +1,4 @@
-use Rattle.std.proofs.Common.{rules, sym, ◌∙◌}
+use Rattle.std.proofs.Common.{sym, ◌∙◌}
 use Rattle.verdicts.specs.Verdicts.{check_of}
 use Rattle.verdicts.proofs.Chain.{begun}
 use Rattle.entries.proofs.Chains.{flag_so, no_flag, flag_zero}

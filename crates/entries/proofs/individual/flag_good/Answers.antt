@@ -1,4 +1,3 @@
-use Rattle.std.proofs.Common.{rules}
 use Rattle.paper.specs.Records.{flag_good}
 use Rattle.entries.proofs.individual.flag_good.Goals as goal
 

@@ -1,4 +1,3 @@
-use Rattle.std.proofs.Common.{rules}
 use Rattle.paper.specs.Records.{information_good}
 use Rattle.entries.proofs.individual.information_good.Goals as goal
 

@@ -1,4 +1,4 @@
-use Rattle.std.proofs.Common.{rules, sym, ◌∙◌}
+use Rattle.std.proofs.Common.{sym, ◌∙◌}
 use Rattle.entries.specs.Judging.{moved_says, HandsMoved, judged_says, HandsOn}
 use Rattle.entries.proofs.Chains.{goes_on, stops}
 use Rattle.entries.proofs.individual.judge.Goals as goal

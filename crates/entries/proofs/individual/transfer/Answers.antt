@@ -1,4 +1,4 @@
-use Rattle.std.proofs.Common.{ap, ap₂, arith, drop, length, rules, sym, take, true, ℕ, ◌*◌, ◌+◌, ◌<◌, ◌∙◌, ◌≡◌}
+use Rattle.std.proofs.Common.{ap, ap₂, arith, drop, length, sym, take, true, ℕ, ◌*◌, ◌+◌, ◌<◌, ◌∙◌, ◌≡◌}
 use Rattle.paper.specs.Checks.{fine}
 use Rattle.paper.specs.Fields.{field, digits, value, is}
 use Rattle.paper.specs.Kinds.{code_of, known}
@@ -68,33 +68,30 @@ reserved_good c = sym c.reads.ensures ∙ c.if-not-reads.false
 
 pub returns-then-not-account_good : goal.returns-then-not-account_good
 unfolding moved_says HandsMoved
-returns-then-not-account_good c =
-    (
-      account_wrong _ _ (code_good (goal.at.returns-then-not-account_good c).Else-not-known) (whereto_good (goal.at.returns-then-not-account_good c).In_default-whereto) (reserved_good (goal.at.returns-then-not-account_good c).Else-not-reads)
-          (sym c.account_good.ensures ∙ c.if-not-account_good.true),
-      tt,
-    )
+returns-then-not-account_good c = (
+  account_wrong _ _ (code_good (goal.at.returns-then-not-account_good c).Else-not-known) (whereto_good (goal.at.returns-then-not-account_good c).In_default-whereto) (reserved_good (goal.at.returns-then-not-account_good c).Else-not-reads)
+      (sym c.account_good.ensures ∙ c.if-not-account_good.true),
+  tt,
+)
 
 account_so : (c : Else-not-account_good) → account_good c.args.rec.now ≡ true
 account_so c = sym c.account_good.ensures ∙ c.if-not-account_good.false
 
 pub returns-then-amount-eq0 : goal.returns-then-amount-eq0
 unfolding moved_says HandsMoved
-returns-then-amount-eq0 c =
-    (
-      amount_wrong _ _ (code_good (goal.at.returns-then-amount-eq0 c).Else-not-known) (whereto_good (goal.at.returns-then-amount-eq0 c).In_default-whereto) (reserved_good (goal.at.returns-then-amount-eq0 c).Else-not-reads) (account_so (goal.at.returns-then-amount-eq0 c).Else-not-account_good)
-          (sym c.amount-amount.ensures.0 ∙ c.if-amount-eq0.true),
-      tt,
-    )
+returns-then-amount-eq0 c = (
+  amount_wrong _ _ (code_good (goal.at.returns-then-amount-eq0 c).Else-not-known) (whereto_good (goal.at.returns-then-amount-eq0 c).In_default-whereto) (reserved_good (goal.at.returns-then-amount-eq0 c).Else-not-reads) (account_so (goal.at.returns-then-amount-eq0 c).Else-not-account_good)
+      (sym c.amount-amount.ensures.0 ∙ c.if-amount-eq0.true),
+  tt,
+)
 
 pub returns-then-blank : goal.returns-then-blank
 unfolding moved_says HandsMoved
-returns-then-blank c =
-    (
-      reference_wrong _ _ (code_good (goal.at.returns-then-blank c).Else-not-known) (whereto_good (goal.at.returns-then-blank c).In_default-whereto) (reserved_good (goal.at.returns-then-blank c).Else-not-reads) (account_so (goal.at.returns-then-blank c).Else-not-account_good)
-          (λ e. c.if-amount-eq0.false (c.amount-amount.ensures.0 ∙ e)) (sym c.blank.ensures ∙ c.if-blank.true),
-      tt,
-    )
+returns-then-blank c = (
+  reference_wrong _ _ (code_good (goal.at.returns-then-blank c).Else-not-known) (whereto_good (goal.at.returns-then-blank c).In_default-whereto) (reserved_good (goal.at.returns-then-blank c).Else-not-reads) (account_so (goal.at.returns-then-blank c).Else-not-account_good)
+      (λ e. c.if-amount-eq0.false (c.amount-amount.ensures.0 ∙ e)) (sym c.blank.ensures ∙ c.if-blank.true),
+  tt,
+)
 
 pub returns : goal.returns
 unfolding moved_says HandsMoved

@@ -1,4 +1,4 @@
-use Rattle.std.proofs.Common.{arith, rules}
+use Rattle.std.proofs.Common.{arith}
 use Rattle.field.specs.Blocks.{sum_good}
 use Rattle.field.proofs.block.good.Goals as goal
 

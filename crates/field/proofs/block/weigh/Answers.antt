@@ -1,4 +1,4 @@
-use Rattle.std.proofs.Common.{arith, rules, ◌/◌}
+use Rattle.std.proofs.Common.{arith, ◌/◌}
 use lib.Bits.{and_le_r}
 use Rattle.field.proofs.Blocks.{products_weighed, weighed_small}
 use Rattle.field.proofs.block.weigh.Goals as goal

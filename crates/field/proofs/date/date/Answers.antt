@@ -1,4 +1,4 @@
-use Rattle.std.proofs.Common.{ap, rules, ◌∙◌}
+use Rattle.std.proofs.Common.{ap, ◌∙◌}
 use Rattle.paper.specs.Dates.{is_date}
 use Rattle.field.proofs.Numbers.{date_number}
 use Rattle.field.proofs.date.date.Goals as goal

@@ -1,4 +1,3 @@
-use Rattle.std.proofs.Common.{rules}
 use Rattle.paper.specs.Dates.{is_date}
 use Rattle.field.proofs.date.is_date.Goals as goal
 

@@ -1,4 +1,4 @@
-use Rattle.std.proofs.Common.{eq-eqb, ne_eqb, List, [], eqb, false, get_or, refl, rules, suc, true, zero, ℕ, ⊎_elim, ◌%◌, ◌∷◌, ◌≡◌, ◌≤◌}
+use Rattle.std.proofs.Common.{eq-eqb, ne_eqb, List, [], eqb, false, get_or, refl, suc, true, zero, ℕ, ◌%◌, ◌∷◌, ◌≡◌, ◌≤◌}
 use lib.ListN.{get_or-eq_default}
 use Rattle.paper.specs.Dates.{month_days}
 use Rattle.field.proofs.date.month_days.Goals as goal
@@ -30,8 +30,8 @@ module _ (year : ℕ) where
 pub returns : goal.returns
 returns c =
     elim c.else-month-eq-FEBRUARY.branch [
-      else-month-eq-FEBRUARY-via-then-month-eq-FEBRUARY+else-year-eq0 w ↦ no_leap _ (ne_eqb _ _ w.if-year-eq0.false) _
-    | else-month-eq-FEBRUARY-via-else-month-eq-FEBRUARY w ↦ other _ _ w.if-month-eq-FEBRUARY.false
+      | else-month-eq-FEBRUARY-via-then-month-eq-FEBRUARY+else-year-eq0 w ↦ no_leap _ (ne_eqb _ _ w.if-year-eq0.false) _
+      | else-month-eq-FEBRUARY-via-else-month-eq-FEBRUARY w ↦ other _ _ w.if-month-eq-FEBRUARY.false
     ]
 
 pub returns-then-month-gt12 : goal.returns-then-month-gt12

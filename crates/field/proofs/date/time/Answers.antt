@@ -1,4 +1,3 @@
-use Rattle.std.proofs.Common.{rules}
 use Rattle.field.proofs.Numbers.{time_number}
 use Rattle.field.proofs.date.time.Goals as goal
 

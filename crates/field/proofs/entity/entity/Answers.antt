@@ -1,4 +1,4 @@
-use Rattle.std.proofs.Common.{arith, rules}
+use Rattle.std.proofs.Common.{arith}
 use Rattle.paper.specs.Entities.{entity}
 use Rattle.field.proofs.entity.entity.Goals as goal
 

@@ -1,4 +1,3 @@
-use Rattle.std.proofs.Common.{rules}
 use Rattle.paper.specs.Entities.{entity_field}
 use Rattle.field.proofs.entity.entity_field.Goals as goal
 

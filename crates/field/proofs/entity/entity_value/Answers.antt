@@ -1,4 +1,4 @@
-use Rattle.std.proofs.Common.{ap, arith, rules, sym, ◌+◌, ◌∙◌}
+use Rattle.std.proofs.Common.{ap, arith, sym, ◌+◌, ◌∙◌}
 use Rattle.paper.specs.Fields.{number}
 use Rattle.paper.specs.Entities.{entity_value}
 use Rattle.characters.proofs.Part.{first_of}

@@ -1,4 +1,4 @@
-use Rattle.std.proofs.Common.{rules, ◌∙◌}
+use Rattle.std.proofs.Common.{◌∙◌}
 use Rattle.field.proofs.entity.in_currency.Goals as goal
 
 pub returns-in-Pesos : goal.returns-in-Pesos

@@ -1,4 +1,4 @@
-use Rattle.std.proofs.Common.{ap, rules, ◌∙◌}
+use Rattle.std.proofs.Common.{ap, ◌∙◌}
 use Rattle.field.specs.Currencies.{in_currency}
 use Rattle.field.proofs.Currencies.{of_field}
 use Rattle.field.proofs.entity.of_currency.Goals as goal

@@ -1,4 +1,3 @@
-use Rattle.std.proofs.Common.{rules}
 use Rattle.paper.specs.Entities.{on_roster}
 use Rattle.field.proofs.entity.on_roster.Goals as goal
 

@@ -1,4 +1,4 @@
-use Rattle.std.proofs.Common.{arith, rules}
+use Rattle.std.proofs.Common.{arith}
 use Rattle.field.proofs.Currencies.{in_pesos, in_dollars}
 use Rattle.field.proofs.entity.own.Goals as goal
 

@@ -1,4 +1,3 @@
-use Rattle.std.proofs.Common.{rules}
 use Rattle.paper.specs.Records.{amount_of}
 use Rattle.field.proofs.individual.amount.Goals as goal
 

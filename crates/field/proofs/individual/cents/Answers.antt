@@ -1,4 +1,4 @@
-use Rattle.std.proofs.Common.{arith, drop, length, lit<, rules, sym, take, true, ◌*◌, ◌+◌, ◌-◌, ◌<◌, ◌^◌, ◌∙◌, ◌≡◌}
+use Rattle.std.proofs.Common.{arith, drop, length, lit<, sym, take, true, ◌+◌, ◌-◌, ◌<◌, ◌∙◌, ◌≡◌}
 use Rattle.paper.specs.Fields.{field, digits, value}
 use Rattle.paper.proofs.Tests.{T_of}
 use Rattle.characters.proofs.Eights.{first_small, last_small}

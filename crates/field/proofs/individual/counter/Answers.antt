@@ -1,4 +1,4 @@
-use Rattle.std.proofs.Common.{arith, drop, rules, sym, take, true, ◌<◌, ◌∙◌, ◌≡◌}
+use Rattle.std.proofs.Common.{arith, drop, sym, take, true, ◌<◌, ◌∙◌, ◌≡◌}
 use Rattle.paper.specs.Fields.{field, digits, value}
 use Rattle.paper.proofs.Tests.{T_of}
 use Rattle.characters.proofs.Part.{part_length}

@@ -1,4 +1,4 @@
-use Rattle.std.proofs.Common.{arith, rules, sym, ◌∙◌}
+use Rattle.std.proofs.Common.{arith, sym, ◌∙◌}
 use Rattle.paper.specs.Fields.{field}
 use Rattle.paper.proofs.Digits.{number_bound}
 use Rattle.characters.proofs.Part.{part_length}

@@ -1,4 +1,4 @@
-use Rattle.std.proofs.Common.{[], arith, get_or, ne_eqb, rules, ℕ, ◌∙◌, ◌∷◌, ◌≡◌}
+use Rattle.std.proofs.Common.{[], arith, get_or, ne_eqb, ℕ, ◌∙◌, ◌∷◌, ◌≡◌}
 use Rattle.paper.specs.Kinds.{code_of}
 use Rattle.paper.specs.declared.record.Code.TheVariants.{Unknown}
 use Rattle.field.proofs.Numbers.{code_in, code_bytes}

@@ -1,4 +1,4 @@
-use Rattle.std.proofs.Common.{[], arith, ne_eqb, rules, ℕ, ◌∷◌, ◌≡◌}
+use Rattle.std.proofs.Common.{[], arith, ne_eqb, ℕ, ◌∷◌, ◌≡◌}
 use Rattle.paper.specs.Kinds.{kind, kind_of}
 use Rattle.paper.specs.declared.record.Kind.TheVariants.{Other}
 use Rattle.characters.proofs.Ranges.{Keys}

@@ -1,4 +1,4 @@
-use Rattle.std.proofs.Common.{arith, length-drop, length-take, rules, ◌*◌, ◌+◌, ◌-◌, ◌≡◌}
+use Rattle.std.proofs.Common.{arith, length-drop, length-take, ◌*◌, ◌+◌, ◌-◌, ◌≡◌}
 use Rattle.paper.specs.Reading.{record_at}
 use Rattle.field.proofs.place.record_at.Goals as goal
 

@@ -1,4 +1,4 @@
-use Rattle.std.proofs.Common.{rules, ◌∙◌}
+use Rattle.std.proofs.Common.{◌∙◌}
 use Rattle.paper.specs.Records.{number_good}
 use Rattle.headers.proofs.batch_header.number_good.Goals as goal
 

@@ -1,4 +1,4 @@
-use Rattle.std.proofs.Common.{rules, ◌∙◌}
+use Rattle.std.proofs.Common.{◌∙◌}
 use Rattle.paper.specs.Records.{headed}
 use Rattle.verdicts.proofs.Chain.{begun}
 use Rattle.headers.proofs.file_header.headed.Goals as goal

@@ -1,4 +1,4 @@
-use Rattle.std.proofs.Common.{rules, ◌∙◌}
+use Rattle.std.proofs.Common.{◌∙◌}
 use Rattle.paper.specs.Records.{origin_good}
 use Rattle.headers.proofs.file_header.origin_good.Goals as goal
 

@@ -1,4 +1,3 @@
-use Rattle.std.proofs.Common.{rules}
 use Rattle.paper.specs.Records.{own_desk}
 use Rattle.headers.proofs.file_header.own_desk.Goals as goal
 

@@ -1,4 +1,3 @@
-use Rattle.std.proofs.Common.{rules}
 use Rattle.reasons.proofs.Shown.answer.Goals as goal
 
 pub returns-in-Refused : goal.returns-in-Refused

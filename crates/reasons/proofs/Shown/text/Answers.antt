@@ -1,4 +1,4 @@
-use Rattle.std.proofs.Common.{rules, ◌∙◌}
+use Rattle.std.proofs.Common.{◌∙◌}
 use Rattle.paper.specs.Receiving.{text_in}
 use Rattle.reasons.proofs.Shown.text.Goals as goal
 

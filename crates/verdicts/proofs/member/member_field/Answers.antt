@@ -1,4 +1,3 @@
-use Rattle.std.proofs.Common.{rules}
 use Rattle.paper.specs.Records.{member_field}
 use Rattle.verdicts.proofs.Chain.{begun}
 use Rattle.verdicts.proofs.member.member_field.Goals as goal

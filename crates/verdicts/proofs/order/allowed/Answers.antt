@@ -1,4 +1,4 @@
-use Rattle.std.proofs.Common.{[], refl, rules, ◌∷◌}
+use Rattle.std.proofs.Common.{[], refl, ◌∷◌}
 use Rattle.paper.specs.Checks.{fine, wrong}
 use Rattle.paper.specs.Kinds.{allowed}
 use Rattle.paper.specs.declared.record.Before.TheVariants.{Nothing, Between, Opened, Flagged, Inside}

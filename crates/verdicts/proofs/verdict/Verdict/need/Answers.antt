@@ -1,4 +1,3 @@
-use Rattle.std.proofs.Common.{rules}
 use Rattle.paper.specs.Checks.{need, ◌also◌}
 use Rattle.verdicts.specs.Verdicts.{check_of}
 use Rattle.verdicts.proofs.verdict.Verdict.need.Goals as goal

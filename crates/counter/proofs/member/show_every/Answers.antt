@@ -1,0 +1,7 @@
+use Rattle.std.proofs.Common.{rules}
+use Rattle.counter.proofs.Members.{asked}
+use Rattle.counter.proofs.member.show_every.Goals as goal
+
+pub show_each-requires : goal.show_each-requires
+show_each-requires g c =
+    asked c.args.session _ _ _ _ c.in-Accepted.is c.ask-answer.ensures

@@ -1,0 +1,17 @@
+use Rattle.std.proofs.Common.{rules}
+use Rattle.files.proofs.Parts.{in_file, front}
+use Rattle.counter.proofs.share.share_to.Goals as goal
+
+pub slice_bounds-input-end : goal.slice_bounds-input-end
+slice_bounds-input-end g c =
+    in_file _ c.in-Bytes.is c.file-taken.ensures
+
+pub slice_bounds-read-end : goal.slice_bounds-read-end
+slice_bounds-read-end g c = front _ _ ((in_file _ c.in-Bytes.is c.file-taken.ensures))
+
+pub slice_bounds-input-end-2 : goal.slice_bounds-input-end-2
+slice_bounds-input-end-2 g c =
+    in_file _ c.in-Bytes.is c.file-taken.ensures
+
+pub slice_bounds-share_out-end : goal.slice_bounds-share_out-end
+slice_bounds-share_out-end g c = front _ _ ((in_file _ c.in-Bytes.is c.file-taken.ensures))
