@@ -71,7 +71,9 @@ fn repeated_in(pages: &mut [u16], seen: &mut [u8], page: usize, file: &[u8], fro
     records
 }
 
-// The same with each size of room, new and clear.
+// The same with each size of room, new and clear. None is made part of the function that calls it, whose stack would be touched at every
+// reading, whether anybody looks or not.
+#[inline(never)]
 fn in_smallest(file: &[u8], from: usize) -> usize
     requires { (length file.now / 94 ≤ 40) × (from ≤ length file.now / 94) }
     ensures { FirstFrom (repeated file.now) (length file.now / 94) from result }
@@ -81,6 +83,7 @@ fn in_smallest(file: &[u8], from: usize) -> usize
     repeated_in(&mut pages, &mut seen, SMALLEST_PAGE, file, from)
 }
 
+#[inline(never)]
 fn in_smaller(file: &[u8], from: usize) -> usize
     requires { (length file.now / 94 ≤ 120) × (from ≤ length file.now / 94) }
     ensures { FirstFrom (repeated file.now) (length file.now / 94) from result }
@@ -90,6 +93,7 @@ fn in_smaller(file: &[u8], from: usize) -> usize
     repeated_in(&mut pages, &mut seen, SMALLER_PAGE, file, from)
 }
 
+#[inline(never)]
 fn in_small(file: &[u8], from: usize) -> usize
     requires { (length file.now / 94 ≤ 360) × (from ≤ length file.now / 94) }
     ensures { FirstFrom (repeated file.now) (length file.now / 94) from result }
@@ -99,6 +103,7 @@ fn in_small(file: &[u8], from: usize) -> usize
     repeated_in(&mut pages, &mut seen, SMALL_PAGE, file, from)
 }
 
+#[inline(never)]
 fn in_large(file: &[u8], from: usize) -> usize
     requires { (length file.now / 94 ≤ 1080) × (from ≤ length file.now / 94) }
     ensures { FirstFrom (repeated file.now) (length file.now / 94) from result }
@@ -108,6 +113,7 @@ fn in_large(file: &[u8], from: usize) -> usize
     repeated_in(&mut pages, &mut seen, LARGE_PAGE, file, from)
 }
 
+#[inline(never)]
 fn in_larger(file: &[u8], from: usize) -> usize
     requires { (length file.now / 94 ≤ 3240) × (from ≤ length file.now / 94) }
     ensures { FirstFrom (repeated file.now) (length file.now / 94) from result }
@@ -117,6 +123,7 @@ fn in_larger(file: &[u8], from: usize) -> usize
     repeated_in(&mut pages, &mut seen, LARGER_PAGE, file, from)
 }
 
+#[inline(never)]
 fn in_largest(file: &[u8], from: usize) -> usize
     requires { (length file.now ≤ 940000) × (from ≤ length file.now / 94) }
     ensures { FirstFrom (repeated file.now) (length file.now / 94) from result }
@@ -127,8 +134,7 @@ fn in_largest(file: &[u8], from: usize) -> usize
 }
 
 // From a place on, the first record whose number stands before it, or how many records there are; `known`, where that tells already. One
-// looks once, since the reading stops at what was found. It calls itself with what it found, which is answered as it is: the compiler makes
-// no function that calls itself part of the reading's loop, nor its arrays, which would be touched at every reading.
+// looks once, since the reading stops at what was found. It calls itself with what it found, which is answered as it is.
 pub fn fresh(file: &[u8], place: usize, known: usize) -> usize
     requires file_len_bound { (length file.now ≤ 940000) × (place * 94 + 94 ≤ length file.now) × (0 < place) }
     requires fresh_to { FreshTo file.now place known }
