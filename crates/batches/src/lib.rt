@@ -1,5 +1,6 @@
 // A batch as it is written: the records up to the next batch header, and what its control counts of them.
 #![tactic(auto)]
+
 ghost use Rattle.std.specs.Prelude.{◌≡◌, ◌^◌, ◌≤◌, length};
 ghost use Rattle.paper.specs.Kinds.{opens_batch, kind_of};
 ghost use Rattle.controls.specs.Bounds.{Below};

@@ -1,5 +1,6 @@
 // A file built from a header body and a tray.
 #![tactic(auto)]
+
 ghost use Rattle.std.specs.Prelude.{◌≡◌, ◌*◌, leb};
 ghost use Rattle.paper.specs.Answers.{said, require};
 ghost use Rattle.paper.specs.Buffers.{told, written, buildable};

@@ -1,5 +1,6 @@
 // A company's file of 250-byte records, made into a tray.
 #![tactic(auto)]
+
 ghost use Rattle.std.specs.Prelude.{◌≡◌, ◌+◌, ◌-◌, ◌*◌, ◌^◌, ◌≤◌, leb, length, take, drop};
 ghost use Rattle.paper.specs.Answers.{said, accepted, and_then, require};
 ghost use Rattle.paper.specs.Buffers.{told, over};

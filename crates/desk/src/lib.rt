@@ -1,5 +1,6 @@
 // The desk: a session of one date, one currency and a roster of entities, and the jobs that take one.
 #![tactic(auto)]
+
 ghost use Rattle.std.specs.Prelude.{◌≡◌};
 ghost use Rattle.paper.specs.Listing.{numbers_to};
 ghost use Rattle.desk.specs.Standing.{standing, holding_zeros};

@@ -1,5 +1,6 @@
 // What is addressed to one entity, written into a lent buffer.
 #![tactic(auto)]
+
 ghost use Rattle.std.specs.Prelude.{◌≡◌, ◌≤◌};
 ghost use Rattle.paper.specs.Buffers.{told, written, room_for};
 ghost use Rattle.paper.specs.Extract.{extract};

@@ -1,5 +1,6 @@
 // What the desk prints: the listing of a session, or the line of an answer.
 #![tactic(auto)]
+
 ghost use Rattle.paper.specs.Listing.{listing, positions_of};
 ghost use Rattle.desk.specs.Standing.{standing};
 ghost use Rattle.desk.specs.Calls.{Reachable};

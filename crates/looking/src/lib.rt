@@ -1,5 +1,6 @@
 // What no buffer holds, looked at in pieces and watched. Which knowledge is sought goes by its form.
 #![tactic(auto)]
+
 ghost use Rattle.looking.specs.Looks.{SoughtBegun, SoughtOn, TellsOf, sought_in, LookBegun, LookOn};
 
 use paper::rules::Currency;

@@ -1,5 +1,6 @@
 // The reading of a file: 201, then records in order. The first fault is the answer.
 #![tactic(auto)]
+
 ghost use Rattle.std.specs.Prelude.{◌≡◌, true, ◌/◌, ◌+◌, ◌*◌, ◌≤◌, ◌<◌, leb, length};
 ghost use Rattle.paper.specs.Checks.{need, ◌also◌};
 ghost use Rattle.paper.specs.Fields.{every, good};

@@ -1,5 +1,6 @@
 // A file shared out among the entities on the roster: what is handed out to one of them.
 #![tactic(auto)]
+
 ghost use Rattle.std.specs.Prelude.{◌≡◌};
 ghost use Rattle.sharing.specs.Shares.{holds_to, Shares};
 

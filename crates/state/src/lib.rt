@@ -1,5 +1,6 @@
 // What the next record finds before it, and the state after a record of each kind.
 #![tactic(auto)]
+
 ghost use Rattle.std.specs.Prelude.{◌≡◌, ◌^◌, ◌<◌};
 ghost use Rattle.paper.specs.Reading.{flag};
 ghost use Rattle.state.specs.States.{RoomToCount, after_by, past_by};

@@ -1,5 +1,6 @@
 // A file's batch headers, individuals and additionals, back on a tray.
 #![tactic(auto)]
+
 ghost use Rattle.std.specs.Prelude.{◌≡◌, ◌≤◌, length};
 ghost use Rattle.paper.specs.Buffers.{told, over, written, room_for};
 ghost use Rattle.paper.specs.Trays.{strip};

@@ -1,5 +1,6 @@
 // A tray: records of 96 bytes, a two-byte mark before each 94-byte body.
 #![tactic(auto)]
+
 ghost use Rattle.std.specs.Prelude.{◌≡◌, ◌+◌, ◌*◌, ◌≤◌, ◌++◌, length};
 ghost use Rattle.paper.specs.Answers.{said};
 ghost use Rattle.paper.specs.Kinds.{kind_of};

@@ -16,4 +16,4 @@ slice_bounds-build-end g c = front _ _ ((whole_fits Tray _ _ _ c.in-Whole.is c.t
 pub hand_over-requires : goal.hand_over-requires
 hand_over-requires g c =
     let o = c.build-output in
-    fits o.result o.last.1.1.1.0 (λ n p. build_inside c.args.session _ _ _ _ _ o.ensures p)
+    fits o.result o.new.out (λ n p. build_inside c.args.session _ _ _ _ _ o.ensures p)

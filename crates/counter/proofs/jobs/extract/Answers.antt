@@ -14,4 +14,4 @@ slice_bounds-extract-end g c = front _ _ ((in_file _ c.in-Bytes.is c.file-taken.
 pub hand_over-requires : goal.hand_over-requires
 hand_over-requires g c =
     let o = c.extract-output in
-    fits o.result o.last.1.1.1.0 (λ n p. extract_inside c.args.session _ _ _ _ _ o.ensures p)
+    fits o.result o.new.out (λ n p. extract_inside c.args.session _ _ _ _ _ o.ensures p)

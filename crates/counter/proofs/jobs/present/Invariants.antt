@@ -6,4 +6,4 @@ abbrev pub invariant-loop-word : goal.invariant-loop-word
 invariant-loop-word g l = Reachable l.after
 
 abbrev pub decreases-loop-word : goal.decreases-loop-word
-decreases-loop-word g l = l.initial.count - l.ended
+decreases-loop-word g l = l.count - l.word

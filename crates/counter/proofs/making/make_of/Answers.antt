@@ -16,4 +16,4 @@ slice_bounds-tray-end g c = front _ _ ((whole_fits (Company c.args.currency) _ _
 pub hand_over-requires : goal.hand_over-requires
 hand_over-requires g c =
     let o = c.tray-output in
-    fits o.result o.last.1.1.1.0 (λ n p. made_inside c.args.currency _ _ _ o.result _ o.ensures p)
+    fits o.result o.new.out (λ n p. made_inside c.args.currency _ _ _ o.result _ o.ensures p)

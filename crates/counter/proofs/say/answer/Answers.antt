@@ -2,17 +2,13 @@ use Rattle.std.proofs.Common.{length, rules, ◌∙◌, ◌≤◌}
 use Rattle.files.proofs.Parts.{front}
 use Rattle.listing.proofs.Printing.{counted}
 use Rattle.counter.proofs.say.answer.Goals as goal
-use Rattle.counter.proofs.say.answer.Goals.{After-answer-n}
 
 -- what is printed is in the buffer
-inside : (g : goal.Over) (c : After-answer-n g) → c.answer-n.result ≤ length c.answer-n.new.out
-inside g c = counted _ _ c.answer-n.ensures
-
 pub slice_bounds-line-end : goal.slice_bounds-line-end
-slice_bounds-line-end g c = inside g c
+slice_bounds-line-end g c = counted _ _ c.answer-n.ensures
 
 pub slice_bounds-printed-end : goal.slice_bounds-printed-end
-slice_bounds-printed-end g c = front _ _ (inside g (goal.at.slice_bounds-printed-end g c).After-answer-n)
+slice_bounds-printed-end g c = front _ _ (counted _ _ c.answer-n.ensures)
 
 pub returns : goal.returns
 returns g c =

@@ -2,17 +2,13 @@ use Rattle.std.proofs.Common.{length, rules, ◌∙◌, ◌≤◌}
 use Rattle.files.proofs.Parts.{front}
 use Rattle.listing.proofs.Printing.{counted}
 use Rattle.counter.proofs.say.named.Goals as goal
-use Rattle.counter.proofs.say.named.Goals.{After-named-n}
 
 -- what is printed is in the buffer
-inside : (g : goal.Over) (c : After-named-n g) → c.named-n.result ≤ length c.named-n.new.out
-inside g c = counted _ _ c.named-n.ensures
-
 pub slice_bounds-line-end : goal.slice_bounds-line-end
-slice_bounds-line-end g c = inside g c
+slice_bounds-line-end g c = counted _ _ c.named-n.ensures
 
 pub slice_bounds-printed-end : goal.slice_bounds-printed-end
-slice_bounds-printed-end g c = front _ _ (inside g (goal.at.slice_bounds-printed-end g c).After-named-n)
+slice_bounds-printed-end g c = front _ _ (counted _ _ c.named-n.ensures)
 
 pub returns : goal.returns
 returns g c =

@@ -2,20 +2,16 @@ use Rattle.std.proofs.Common.{length, rules, ◌≤◌}
 use Rattle.files.proofs.Parts.{front}
 use Rattle.listing.proofs.Printing.{counted}
 use Rattle.counter.proofs.say.output.Goals as goal
-use Rattle.counter.proofs.say.output.Goals.{After-output-n}
 
 -- what is printed is in the buffer
-inside : (g : goal.Over) (c : After-output-n g) → c.output-n.result ≤ length c.output-n.new.out
-inside g c = counted _ _ c.output-n.ensures
-
 pub slice_bounds-line-end : goal.slice_bounds-line-end
-slice_bounds-line-end g c = inside g (goal.at.slice_bounds-line-end g c).After-output-n
+slice_bounds-line-end g c = counted _ _ c.output-n.ensures
 
 pub slice_bounds-printed-end : goal.slice_bounds-printed-end
-slice_bounds-printed-end g c = front _ _ (inside g (goal.at.slice_bounds-printed-end g c).After-output-n)
+slice_bounds-printed-end g c = front _ _ (counted _ _ c.output-n.ensures)
 
 pub slice_bounds-line-end-in-Refused : goal.slice_bounds-line-end-in-Refused
-slice_bounds-line-end-in-Refused g c = inside g (goal.at.slice_bounds-line-end-in-Refused g c).After-output-n
+slice_bounds-line-end-in-Refused g c = counted _ _ c.output-n.ensures
 
 pub slice_bounds-printed-end-in-Refused : goal.slice_bounds-printed-end-in-Refused
-slice_bounds-printed-end-in-Refused g c = front _ _ (inside g (goal.at.slice_bounds-printed-end-in-Refused g c).After-output-n)
+slice_bounds-printed-end-in-Refused g c = front _ _ (counted _ _ c.output-n.ensures)

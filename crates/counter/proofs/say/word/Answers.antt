@@ -3,7 +3,6 @@ use Rattle.files.proofs.Parts.{front}
 use Rattle.intake.proofs.Gathering.{wrong_inside}
 use Rattle.listing.proofs.Printing.{counted}
 use Rattle.counter.proofs.say.word.Goals as goal
-use Rattle.counter.proofs.say.word.Goals.{After-word-n}
 
 -- the word's bytes are in their array
 pub slice_bounds-bytes-end : goal.slice_bounds-bytes-end
@@ -16,11 +15,8 @@ slice_bounds-word-end g c = front _ _ ((let all : length c.wrong-wrong.result.by
     omega (arith, wrong_inside c.args.roll.text _ c.wrong-wrong.ensures c.in-Word.is)))
 
 -- what is printed is in the buffer
-inside : (g : goal.Over) (c : After-word-n g) → c.word-n.result ≤ length c.word-n.new.out
-inside g c = counted _ _ c.word-n.ensures
-
 pub slice_bounds-line-end : goal.slice_bounds-line-end
-slice_bounds-line-end g c = inside g c
+slice_bounds-line-end g c = counted _ _ c.word-n.ensures
 
 pub slice_bounds-printed-end : goal.slice_bounds-printed-end
-slice_bounds-printed-end g c = front _ _ (inside g (goal.at.slice_bounds-printed-end g c).After-word-n)
+slice_bounds-printed-end g c = front _ _ (counted _ _ c.word-n.ensures)

@@ -23,8 +23,7 @@ identifier-requires-2 c =
 
 pub returns : goal.returns
 unfolding key_of origin_of identifier_of
-returns c =
-    (
-      simp (c.identifier-2.ensures.0, c.entity-origin.ensures.0) (key_of_lem c.args.file.now c.if-file-lt-LENGTH.false (there (goal.at.returns c).Else-not-identifier)),
-      omega (arith, c.identifier-2.ensures.1, c.entity-origin.ensures.1),
-    )
+returns c = (
+  simp (c.identifier-2.ensures.0, c.entity-origin.ensures.0) (key_of_lem c.args.file.now c.if-file-lt-LENGTH.false (there (goal.at.returns c).Else-not-identifier)),
+  omega (arith, c.identifier-2.ensures.1, c.entity-origin.ensures.1),
+)

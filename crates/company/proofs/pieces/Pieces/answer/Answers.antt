@@ -13,17 +13,15 @@ returns-then-self-ne0 c =
 
 pub returns-then-not-lo_good : goal.returns-then-not-lo_good
 unfolding and_then require
-returns-then-not-lo_good c =
-    (
-      omega arith,
-      rw (lt-ltb 0 c.args.self.records (omega (arith, c.if-self-eq0.false)), eq-eqb _ 0 c.if-self-ne0.false, sym c.lo_good.ensures ∙ c.if-not-lo_good.true) refl,
-    )
+returns-then-not-lo_good c = (
+  omega arith,
+  rw (lt-ltb 0 c.args.self.records (omega (arith, c.if-self-eq0.false)), eq-eqb _ 0 c.if-self-ne0.false, sym c.lo_good.ensures ∙ c.if-not-lo_good.true) refl,
+)
 
 pub returns : goal.returns
 unfolding and_then require
-returns c =
-    (
-      omega arith,
-      rw (lt-ltb 0 c.args.self.records (omega (arith, c.if-self-eq0.false)), eq-eqb _ 0 c.if-self-ne0.false, sym c.lo_good.ensures ∙ c.if-not-lo_good.false)
-          c.and_then.ensures,
-    )
+returns c = (
+  omega arith,
+  rw (lt-ltb 0 c.args.self.records (omega (arith, c.if-self-eq0.false)), eq-eqb _ 0 c.if-self-ne0.false, sym c.lo_good.ensures ∙ c.if-not-lo_good.false)
+      c.and_then.ensures,
+)

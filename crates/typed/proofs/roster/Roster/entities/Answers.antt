@@ -16,8 +16,8 @@ loop-e-preserved c =
     let m : c.loop-e.e < length marks = omega (arith, c.loop-e-test.true) in
     let r : c.loop-e.count < length before = omega (arith, c.loop-e-test.true, c.loop-e.invariant.0) in
     elim c.if-self-e.branch [
-      then-self-e w ↦ rw (w.places-is, w.count-is) (put_turn marks before c.loop-e.places c.loop-e.count c.loop-e.e c.loop-e.invariant m w.if-self-e.true r)
-    | else-self-e w ↦ rw (w.places-is, w.count-is) (skip_turn marks before c.loop-e.places c.loop-e.count c.loop-e.e c.loop-e.invariant m w.if-self-e.false)
+      | then-self-e w ↦ rw (w.places-is, w.count-is) (put_turn marks before c.loop-e.places c.loop-e.count c.loop-e.e c.loop-e.invariant m w.if-self-e.true r)
+      | else-self-e w ↦ rw (w.places-is, w.count-is) (skip_turn marks before c.loop-e.places c.loop-e.count c.loop-e.e c.loop-e.invariant m w.if-self-e.false)
     ]
 
 pub returns : goal.returns
