@@ -1,11 +1,11 @@
 -- The pass over the details, one further: the first fault, and the sum.
-use Prim.Native.Nat.{ℕ, ◌+◌, ◌*◌, ◌≤◌, ◌<◌}
+use Prim.Native.Nat.{ℕ, ◌+◌, ◌≤◌, ◌<◌}
 use mathlib.Core.List.{List, [], ◌∷◌}
 use mathlib.Core.Path.{◌≡◌, sym, ap, ◌∙◌}
 use native.Mathlib.Nat.{add-zero}
 use native.Mathlib.Numerals.{add-one}
 use native.Mathlib.Omega.{arith}
-use lib.ListN.{take, drop, drop_of_length-le}
+use lib.ListN.{drop, drop_of_length-le}
 use Rattle.paper.specs.declared.rules.Currency.{Currency}
 use Rattle.paper.specs.Answers.{accepted, refused, and_then}
 use Rattle.paper.specs.Checks.{fine, wrong}

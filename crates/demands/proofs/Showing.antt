@@ -13,7 +13,7 @@ use Rattle.paper.specs.declared.answer.Fault.{Fault}
 use Rattle.paper.specs.declared.answer.Fault.TheVariants.{Length}
 use Rattle.paper.specs.declared.record.Kind.TheVariants.{Additional}
 use Rattle.paper.specs.declared.rules.Rules.{Rules}
-use Rattle.paper.specs.Answers.{Said, accepted, refused, number_of, said, and_then, require}
+use Rattle.paper.specs.Answers.{Said, accepted, number_of, said, and_then, require}
 use Rattle.paper.specs.Fields.{field, within, is}
 use Rattle.paper.specs.Kinds.{kind_of}
 use Rattle.paper.specs.Records.{at_desk}

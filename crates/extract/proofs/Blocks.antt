@@ -6,7 +6,7 @@ use mathlib.Core.Path.{◌≡◌, refl, sym, ap, ◌∙◌}
 use native.Mathlib.Omega.{arith}
 use lib.ListN.{length}
 use Rattle.paper.specs.declared.record.Kind.TheVariants.{FileHeader, BatchHeader}
-use Rattle.paper.specs.Kinds.{opens_batch, kind_of}
+use Rattle.paper.specs.Kinds.{kind_of}
 use Rattle.paper.specs.Controls.{zeros}
 use Rattle.paper.specs.Reading.{Reckoning, nothing_counted, counted}
 use Rattle.paper.specs.Writing.{joined, numbered, file_control_of, owed, settled, owed_before, settled_before, ending, with_controls, closing}

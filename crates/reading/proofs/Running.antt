@@ -1,5 +1,5 @@
 -- Runs of records, one after another.
-use Prim.Native.Nat.{ℕ, ◌+◌, ◌≤◌, ◌<◌}
+use Prim.Native.Nat.{ℕ, ◌+◌}
 use mathlib.Core.List.{List}
 use mathlib.Core.Path.{◌≡◌, ◌∙◌}
 use native.Mathlib.Omega.{arith}
@@ -7,7 +7,7 @@ use Rattle.paper.specs.Records.{ReadingRules}
 use Rattle.state.specs.declared.State.{State}
 use Rattle.reading.specs.declared.Run.{Run}
 use Rattle.reading.specs.declared.Run.TheVariants.{Reached, Stopped}
-use Rattle.reading.specs.Taken.{on_from, Reaches, Runs, Further}
+use Rattle.reading.specs.Taken.{on_from, Runs, Further}
 
 module _ (rules : ReadingRules) (file : List ℕ) (records place : ℕ) (next : State) where
   -- a record, and a run behind it

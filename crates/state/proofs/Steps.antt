@@ -22,7 +22,7 @@ use Rattle.paper.specs.Reading as paper
 use Rattle.paper.specs.Reading.{fields, before_next, last_individual, counter_next, batch_next, closed_next, counted, flag, record_at}
 use Rattle.state.specs.declared.State.{State}
 use Rattle.state.specs.declared.Step.TheVariants.{Next, Stop}
-use Rattle.state.specs.States.{meant, step_says, after_record, stepped, Preceded, RoomToCount, Kept, header_place, individual_place, higher, before_by, counter_by, with_entry, batch_by, after_by, past_by, Knows, Held, StandsAfter, Ready, Entered, EntryTold, Advances, Steps}
+use Rattle.state.specs.States.{meant, step_says, after_record, stepped, Preceded, Kept, header_place, individual_place, higher, before_by, counter_by, with_entry, batch_by, after_by, past_by, Knows, Held, StandsAfter, Ready, Entered, EntryTold, Advances, Steps}
 use Rattle.repeats.specs.Numbers.{numbers_before, repeated}
 use Rattle.paper.proofs.Tests.{not_both}
 use Rattle.repeats.proofs.Further.{one_more, repeated_at}

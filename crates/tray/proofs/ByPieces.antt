@@ -1,18 +1,16 @@
 -- A tray looked at in pieces of whole records: the first bad record of the whole is that of the first piece that has one.
-use Prim.Native.Nat.{ℕ, zero, suc, ◌+◌, ◌*◌, ◌/◌, ◌%◌, ◌≤◌, ◌<◌}
+use Prim.Native.Nat.{ℕ, suc, ◌+◌, ◌/◌, ◌%◌, ◌≤◌, ◌<◌}
 use mathlib.Core.Bool.{Bool, true, false, ◌&&◌}
 use mathlib.Core.List.{List, [], ◌∷◌, ◌++◌}
 use mathlib.Core.Path.{◌≡◌, refl, sym, ap, ◌∙◌}
-use native.Mathlib.Nat.{zero-add, add-zero, suc-add, add_assoc, zero-mul, suc-mul}
+use native.Mathlib.Nat.{zero-add, add-zero, add_assoc}
 use native.Mathlib.Omega.{arith}
 use borrow.Author.Tests.{leb-true, leb-false}
 use lib.Dec.{leb, eqb}
-use lib.ListN.{length, take, drop, length-append, length-drop}
-use lib.Seq.{take-append-le, drop-append-le}
+use lib.ListN.{length, length-append}
 use Rattle.paper.specs.declared.answer.Answer.{Answer}
 use Rattle.paper.specs.Answers.{Said, accepted, refused, said, and_then, require}
 use Rattle.paper.specs.Buffers.{tray_answer}
-use Rattle.paper.specs.Reading.{parts}
 use Rattle.paper.specs.Trays.{tray_records, tray_record_good, tray_fault}
 use Rattle.paper.proofs.Lists.{parts_append}
 use Rattle.paper.proofs.Refusals.{refused_not, and_then_assoc}

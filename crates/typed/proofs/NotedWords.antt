@@ -7,7 +7,6 @@ use mathlib.Core.Path.{◌≡◌, refl, sym, ◌∙◌, subst}
 use borrow.Author.Tests.{eq-eqb, ne_eqb}
 use lib.Dec.{ltb, eqb}
 use lib.ListN.{length, get_or, set}
-use Rattle.paper.specs.Fields.{number}
 use Rattle.typed.specs.declared.roster.Roster.{Roster}
 use Rattle.typed.specs.Rosters.{separator, WrongWord, told_by, told_in, noted, wrong_noted, marks_after, progress_after, closed, progress_with, grown_if, with_if, read_on, which_if, wrong_in}
 

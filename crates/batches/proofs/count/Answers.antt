@@ -1,4 +1,4 @@
-use Rattle.std.proofs.Common.{[], refl, rules, ◌∷◌}
+use Rattle.std.proofs.Common.{[], refl, ◌∷◌}
 use Rattle.field.proofs.Arms.{in_kinds}
 use Rattle.batches.specs.Blocks.{with_record}
 use borrow.Enum.Refused.{opened}

@@ -1,4 +1,4 @@
-use Rattle.std.proofs.Common.{ap, rules, ◌∙◌}
+use Rattle.std.proofs.Common.{ap, ◌∙◌}
 use Rattle.paper.specs.Kinds.{opens_batch}
 use Rattle.batches.proofs.opens.Goals as goal
 

@@ -1,4 +1,4 @@
-use Rattle.std.proofs.Common.{ap, refl, rules, sym, ◌∙◌, ◌≡◌}
+use Rattle.std.proofs.Common.{ap, refl, sym, ◌∙◌, ◌≡◌}
 use Rattle.paper.specs.Answers.{accepted, said}
 use Rattle.paper.specs.Buffers.{written, buildable}
 use Rattle.building.proofs.Sizes.{built_fits}

@@ -1,4 +1,4 @@
-use Rattle.std.proofs.Common.{arith, eq-eqb, le-leb, leb, length, ne_eqb, refl, rules, sym, true, ℕ, ◌%◌, ◌∙◌, ◌≡◌}
+use Rattle.std.proofs.Common.{arith, eq-eqb, le-leb, leb, length, ne_eqb, refl, sym, true, ℕ, ◌%◌, ◌∙◌, ◌≡◌}
 use mathlib.Core.Bool.{and-false}
 use borrow.Author.Tests.{lt-leb}
 use Rattle.paper.specs.Answers.{and_then, require}

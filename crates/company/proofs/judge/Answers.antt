@@ -1,4 +1,4 @@
-use Rattle.std.proofs.Common.{List, add-zero, ap, arith, refl, rules, sym, ℕ, ◌+◌, ◌-◌, ◌∙◌, ◌≡◌, ◌≤◌}
+use Rattle.std.proofs.Common.{List, add-zero, ap, arith, refl, sym, ℕ, ◌+◌, ◌∙◌, ◌≡◌}
 use Rattle.paper.specs.Fields.{number}
 use Rattle.paper.proofs.Refusals.{refused_not}
 use Rattle.verdicts.specs.Verdicts.{check_of}

@@ -1,4 +1,4 @@
-use Rattle.std.proofs.Common.{drop, ◌+◌, ◌-◌, ◌∙◌, ◌≡◌, ◌≤◌}
+use Rattle.std.proofs.Common.{drop, ◌+◌, ◌-◌, ◌≡◌, ◌≤◌}
 use Rattle.company.specs.Files.{details_fault, amounts_in}
 use Rattle.company.specs.Sums.{kept}
 use Rattle.company.proofs.Passing.{front}

@@ -1,4 +1,4 @@
-use Rattle.std.proofs.Common.{eq-eqb, ne_eqb, rules, ◌∙◌}
+use Rattle.std.proofs.Common.{eq-eqb, ne_eqb, ◌∙◌}
 use Rattle.company.specs.Files.{lo_good}
 use Rattle.company.proofs.lo_good.Goals as goal
 

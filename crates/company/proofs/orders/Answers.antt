@@ -1,4 +1,4 @@
-use Rattle.std.proofs.Common.{ap, arith, length, rules, sym, ◌*◌, ◌+◌, ◌-◌, ◌∙◌, ◌≡◌, ◌≤◌}
+use Rattle.std.proofs.Common.{ap, arith, length, sym, ◌*◌, ◌+◌, ◌∙◌, ◌≡◌}
 use borrow.Rule.Slice.PartMut.{mid_len}
 use Rattle.paper.specs.Writing.{joined}
 use Rattle.writing.proofs.Laying.{start}

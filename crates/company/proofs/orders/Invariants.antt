@@ -1,4 +1,4 @@
-use Rattle.std.proofs.Common.{◌*◌, ◌+◌, ◌-◌, ◌∙◌, ◌≡◌, ◌≤◌}
+use Rattle.std.proofs.Common.{◌*◌, ◌-◌, ◌≤◌}
 use Rattle.writing.proofs.Laying.{Wrote}
 use Rattle.company.proofs.Writing.{made}
 use Rattle.company.proofs.orders.Given as goal

@@ -1,4 +1,4 @@
-use Rattle.std.proofs.Common.{ap, arith, length, refl, rules, sym, ◌*◌, ◌/◌, ◌∙◌, ◌≡◌, ◌≤◌}
+use Rattle.std.proofs.Common.{ap, arith, length, refl, sym, ◌*◌, ◌/◌, ◌∙◌, ◌≡◌, ◌≤◌}
 use Rattle.paper.specs.Answers.{accepted, said, and_then}
 use Rattle.paper.specs.Buffers.{written, room_for}
 use Rattle.company.specs.Files.{details_of, company_answer, company_tray, company}

@@ -1,4 +1,4 @@
-use Rattle.std.proofs.Common.{ap, arith, length, refl, rules, ◌-◌, ◌∙◌}
+use Rattle.std.proofs.Common.{ap, arith, length, refl, ◌-◌, ◌∙◌}
 use borrow.Rule.Slice.PartMut.{put_mid}
 use Rattle.paper.specs.Fields.{bytes}
 use Rattle.paper.specs.Reading.{parts}

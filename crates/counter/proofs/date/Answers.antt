@@ -1,4 +1,3 @@
-use Rattle.std.proofs.Common.{rules}
 use Rattle.typed.proofs.Numbers.{date_below}
 use Rattle.counter.proofs.date.Goals as goal
 

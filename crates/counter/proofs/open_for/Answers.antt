@@ -1,4 +1,3 @@
-use Rattle.std.proofs.Common.{rules}
 use Rattle.files.proofs.Parts.{front}
 use Rattle.intake.proofs.Gathering.{inside}
 use Rattle.counter.proofs.open_for.Goals as goal

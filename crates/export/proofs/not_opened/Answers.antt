@@ -1,4 +1,3 @@
-use Rattle.std.proofs.Common.{rules}
 use Rattle.export.specs.Spoken.{not_opened}
 use Rattle.export.proofs.not_opened.Goals as goal
 

@@ -1,4 +1,4 @@
-use Rattle.std.proofs.Common.{rules, ◌∙◌}
+use Rattle.std.proofs.Common.{◌∙◌}
 use Rattle.export.specs.Spoken.{read_of}
 use Rattle.export.proofs.Opened.{rules_refused, done_by_rules}
 use Rattle.export.proofs.shaydhoqel_read.Goals as goal

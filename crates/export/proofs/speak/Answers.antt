@@ -1,4 +1,3 @@
-use Rattle.std.proofs.Common.{rules}
 use Rattle.export.specs.Spoken.{spoken_of}
 use Rattle.export.proofs.speak.Goals as goal
 

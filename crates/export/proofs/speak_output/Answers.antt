@@ -1,4 +1,3 @@
-use Rattle.std.proofs.Common.{rules}
 use Rattle.export.specs.Spoken.{spoken_of, delivered_of}
 use Rattle.export.proofs.speak_output.Goals as goal
 

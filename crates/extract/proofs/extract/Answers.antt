@@ -1,4 +1,4 @@
-use Rattle.std.proofs.Common.{arith, rules, ◌+◌, ◌-◌, ◌≤◌}
+use Rattle.std.proofs.Common.{arith, ◌+◌, ◌-◌, ◌≤◌}
 use Rattle.writing.proofs.Answers.{no_room, has_room}
 use Rattle.extract.proofs.Taking.{taken, count_bounds, size_known}
 use Rattle.extract.proofs.extract.Goals as goal

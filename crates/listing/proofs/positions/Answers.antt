@@ -1,4 +1,4 @@
-use Rattle.std.proofs.Common.{rules, ◌∙◌, ◌≡◌}
+use Rattle.std.proofs.Common.{◌∙◌, ◌≡◌}
 use Rattle.paper.specs.Answers.{said}
 use Rattle.paper.specs.Listing.{date_in, currency_in, numbers_to, printed, positions_of}
 use Rattle.paper.specs.Sessions.{opening}

@@ -1,4 +1,4 @@
-use Rattle.std.proofs.Common.{ap, rules}
+use Rattle.std.proofs.Common.{ap}
 use Rattle.paper.specs.Listing.{listing}
 use Rattle.desk.proofs.Calls.{room, sums_room}
 use Rattle.listing.proofs.Printing.{retold}

@@ -1,4 +1,3 @@
-use Rattle.std.proofs.Common.{length, rules, ◌≤◌}
 use Rattle.files.proofs.Parts.{taken, front}
 use Rattle.listing.proofs.Printing.{counted}
 use Rattle.positions.proofs.serve.Goals as goal

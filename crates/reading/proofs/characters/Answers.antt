@@ -1,4 +1,4 @@
-use Rattle.std.proofs.Common.{rules, sym}
+use Rattle.std.proofs.Common.{sym}
 use Rattle.reading.proofs.characters.Goals as goal
 
 pub returns-then-clean : goal.returns-then-clean

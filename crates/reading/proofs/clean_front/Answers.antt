@@ -1,4 +1,4 @@
-use Rattle.std.proofs.Common.{arith, drop, length, length-drop, rules, sym, take, take_all, ◌+◌, ◌-◌, ◌∙◌, ◌≡◌}
+use Rattle.std.proofs.Common.{arith, drop, length, length-drop, sym, take, take_all, ◌+◌, ◌-◌, ◌∙◌, ◌≡◌}
 use Rattle.reading.proofs.Records.{nothing_tested, block_tested, all_tested}
 use Rattle.reading.proofs.clean_front.Goals as goal
 

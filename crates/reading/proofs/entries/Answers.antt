@@ -1,4 +1,4 @@
-use Rattle.std.proofs.Common.{ap, arith, refl, rules, sym, ◌*◌, ◌+◌, ◌-◌, ◌<◌, ◌∙◌, ◌≡◌, ◌≤◌}
+use Rattle.std.proofs.Common.{ap, arith, refl, sym, ◌∙◌, ◌≡◌}
 use Rattle.paper.specs.Kinds.{kind_of}
 use Rattle.paper.specs.Reading.{record_at}
 use Rattle.state.specs.States.{meant, step_says, Kept}

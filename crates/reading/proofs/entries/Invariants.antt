@@ -1,4 +1,4 @@
-use Rattle.std.proofs.Common.{List, rules, ℕ, ◌*◌, ◌+◌, ◌-◌, ◌<◌, ◌∙◌, ◌≡◌, ◌≤◌}
+use Rattle.std.proofs.Common.{List, ℕ, ◌-◌, ◌≡◌, ◌≤◌}
 use Rattle.paper.specs.Records.{ReadingRules}
 use Rattle.state.specs.declared.State.{State}
 use Rattle.verdicts.specs.Verdicts.{under}

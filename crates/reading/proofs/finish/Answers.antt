@@ -1,4 +1,4 @@
-use Rattle.std.proofs.Common.{[], refl, rules, ◌∷◌}
+use Rattle.std.proofs.Common.{[], refl, ◌∷◌}
 use Rattle.paper.specs.declared.record.Before.{Before}
 use Rattle.paper.specs.Answers.{refused}
 use Rattle.paper.specs.Reading.{finish}

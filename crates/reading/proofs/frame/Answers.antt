@@ -1,4 +1,4 @@
-use Rattle.std.proofs.Common.{ap, refl, rules, sym, true, ◌∙◌, ◌≡◌}
+use Rattle.std.proofs.Common.{ap, refl, sym, true, ◌∙◌, ◌≡◌}
 use Rattle.paper.specs.Checks.{fine, need}
 use Rattle.paper.specs.Fields.{every, good}
 use Rattle.paper.specs.Kinds.{kind_of, allowed}

@@ -1,4 +1,4 @@
-use Rattle.std.proofs.Common.{ap₂, rules, ◌||◌}
+use Rattle.std.proofs.Common.{ap₂, ◌||◌}
 use Rattle.reading.proofs.is_entry.Goals as goal
 
 pub returns : goal.returns

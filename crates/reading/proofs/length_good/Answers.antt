@@ -1,4 +1,3 @@
-use Rattle.std.proofs.Common.{rules}
 use Rattle.paper.specs.Reading.{length_good}
 use Rattle.reading.proofs.length_good.Goals as goal
 

@@ -1,4 +1,4 @@
-use Rattle.std.proofs.Common.{arith, rules, sym, ◌+◌, ◌<◌, ◌∙◌, ◌≡◌, ◌≤◌}
+use Rattle.std.proofs.Common.{arith, sym, ◌∙◌}
 use Rattle.state.specs.States.{meant, step_says, Kept}
 use Rattle.reading.specs.Taken.{Runs, Further}
 use Rattle.reading.proofs.Records.{front_record}

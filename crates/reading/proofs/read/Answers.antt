@@ -1,4 +1,4 @@
-use Rattle.std.proofs.Common.{ap, arith, length, refl, rules, subst, sym, true, ◌-◌, ◌/◌, ◌<◌, ◌∙◌, ◌≡◌, ◌≤◌}
+use Rattle.std.proofs.Common.{ap, arith, length, refl, subst, sym, true, ◌/◌, ◌<◌, ◌∙◌, ◌≡◌}
 use Rattle.paper.specs.Reading.{length_good, finish}
 use Rattle.paper.proofs.Tests.{not_both}
 use Rattle.state.proofs.Numbering.{none_known}

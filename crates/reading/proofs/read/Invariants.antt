@@ -1,4 +1,4 @@
-use Rattle.std.proofs.Common.{List, length, rules, true, ℕ, ◌-◌, ◌/◌, ◌<◌, ◌∙◌, ◌≡◌, ◌≤◌}
+use Rattle.std.proofs.Common.{List, length, true, ℕ, ◌-◌, ◌<◌, ◌≡◌}
 use Rattle.paper.specs.Records.{ReadingRules}
 use Rattle.paper.specs.Reading.{start, length_good, reading_from, parts}
 use Rattle.state.specs.declared.State.{State}

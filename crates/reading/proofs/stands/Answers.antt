@@ -1,4 +1,4 @@
-use Rattle.std.proofs.Common.{rules, sym, ◌∙◌}
+use Rattle.std.proofs.Common.{sym, ◌∙◌}
 use Rattle.paper.specs.Checks.{need, ◌also◌}
 use Rattle.verdicts.specs.Verdicts.{check_of}
 use Rattle.reading.proofs.stands.Goals as goal

@@ -1,4 +1,4 @@
-use Rattle.std.proofs.Common.{arith, length, rules, sym, ◌-◌, ◌/◌, ◌<◌, ◌∙◌, ◌≡◌, ◌≤◌}
+use Rattle.std.proofs.Common.{arith, length, sym, ◌/◌, ◌<◌, ◌∙◌, ◌≤◌}
 use Rattle.sharing.proofs.Looking.{whole, none_left, lent_size, opens, finds, passes, others}
 use borrow.Enum.Refused.{opened}
 use Rattle.sharing.proofs.holds.Goals as goal

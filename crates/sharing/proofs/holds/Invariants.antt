@@ -1,4 +1,4 @@
-use Rattle.std.proofs.Common.{Bool, List, ℕ, ◌-◌, ◌/◌, ◌<◌, ◌∙◌, ◌≡◌, ◌≤◌}
+use Rattle.std.proofs.Common.{Bool, List, ℕ, ◌-◌, ◌≡◌, ◌≤◌}
 use Rattle.sharing.specs.Shares.{holds_to}
 use Rattle.sharing.proofs.Looking.{from}
 use Rattle.sharing.proofs.holds.Given as goal

@@ -1,4 +1,4 @@
-use Rattle.std.proofs.Common.{rules, sym, ◌∙◌}
+use Rattle.std.proofs.Common.{sym, ◌∙◌}
 use Rattle.sharing.proofs.Parts.{none_held, one_held}
 use Rattle.sharing.proofs.share.Goals as goal
 

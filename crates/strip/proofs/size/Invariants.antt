@@ -1,4 +1,4 @@
-use Rattle.std.proofs.Common.{length, ◌*◌, ◌-◌, ◌∙◌, ◌≡◌, ◌≤◌}
+use Rattle.std.proofs.Common.{length, ◌*◌, ◌-◌, ◌≡◌, ◌≤◌}
 use Rattle.strip.proofs.Passing.{passed}
 use Rattle.strip.proofs.size.Given as goal
 

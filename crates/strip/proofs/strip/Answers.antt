@@ -1,4 +1,4 @@
-use Rattle.std.proofs.Common.{rules, sym}
+use Rattle.std.proofs.Common.{sym}
 use Rattle.writing.proofs.Answers.{no_room, has_room}
 use Rattle.strip.proofs.strip.Goals as goal
 

@@ -1,4 +1,4 @@
-use Rattle.std.proofs.Common.{arith, length, rules, ◌-◌, ◌≤◌}
+use Rattle.std.proofs.Common.{arith, length, ◌≤◌}
 use borrow.Rule.Slice.PartMut.{mid_len}
 use Rattle.writing.proofs.Laying.{start, again}
 use Rattle.strip.proofs.Passing.{none_passed, as_long, record_room, record_put, whole_put}

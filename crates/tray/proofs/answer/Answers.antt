@@ -1,4 +1,4 @@
-use Rattle.std.proofs.Common.{eq-eqb, ne_eqb, refl, rules}
+use Rattle.std.proofs.Common.{eq-eqb, ne_eqb, refl}
 use Rattle.paper.specs.Answers.{and_then, require}
 use Rattle.paper.specs.Buffers.{tray_answer}
 use Rattle.tray.proofs.answer.Goals as goal

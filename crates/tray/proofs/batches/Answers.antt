@@ -1,4 +1,4 @@
-use Rattle.std.proofs.Common.{ap, arith, cond, rules, ⊎_elim, ◌+◌, ◌-◌, ◌∙◌, ◌≡◌, ◌≤◌}
+use Rattle.std.proofs.Common.{ap, arith, cond, ◌+◌, ◌∙◌, ◌≡◌}
 use Rattle.paper.specs.Kinds.{opens_batch, kind_of}
 use Rattle.tray.proofs.Passing.{none_counted, one_counted, all_counted}
 use Rattle.tray.proofs.batches.Goals as goal

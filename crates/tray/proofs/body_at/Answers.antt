@@ -1,4 +1,4 @@
-use Rattle.std.proofs.Common.{ap, drop, length, rules, ◌∙◌}
+use Rattle.std.proofs.Common.{ap, drop, length, ◌∙◌}
 use Rattle.paper.proofs.Round.{body}
 use Rattle.tray.specs.Trays.{body_at}
 use Rattle.tray.proofs.Places.{body_behind}

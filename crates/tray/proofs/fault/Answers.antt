@@ -1,4 +1,4 @@
-use Rattle.std.proofs.Common.{arith, refl, sym, ◌-◌, ◌∙◌, ◌≡◌}
+use Rattle.std.proofs.Common.{refl, sym, ◌∙◌}
 use Rattle.tray.proofs.Passing.{stops, goes_on, ends}
 use Rattle.tray.proofs.fault.Goals as goal
 

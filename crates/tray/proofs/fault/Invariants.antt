@@ -1,4 +1,4 @@
-use Rattle.std.proofs.Common.{drop, ◌-◌, ◌∙◌, ◌≡◌}
+use Rattle.std.proofs.Common.{drop, ◌-◌, ◌≡◌}
 use Rattle.paper.specs.Trays.{tray_records, tray_fault}
 use Rattle.tray.proofs.fault.Given as goal
 

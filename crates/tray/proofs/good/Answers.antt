@@ -1,4 +1,4 @@
-use Rattle.std.proofs.Common.{drop, drop_at, rules, sym, take, take_at, ◌++◌, ◌∙◌, ◌≡◌}
+use Rattle.std.proofs.Common.{drop, drop_at, sym, take, take_at, ◌++◌, ◌∙◌, ◌≡◌}
 use Rattle.paper.specs.Trays.{tray_record_good}
 use Rattle.tray.proofs.good.Goals as goal
 use Rattle.tray.proofs.good.Goals.{Start}

@@ -1,4 +1,4 @@
-use Rattle.std.proofs.Common.{List, ap, drop, rules, take, take-append-drop, ℕ, ◌++◌, ◌∙◌, ◌≡◌}
+use Rattle.std.proofs.Common.{List, ap, drop, take, take-append-drop, ℕ, ◌++◌, ◌∙◌, ◌≡◌}
 use Rattle.paper.specs.Trays.{tray_record_good}
 use Rattle.tray.proofs.Places.{body_behind}
 use Rattle.tray.proofs.good_at.Goals as goal

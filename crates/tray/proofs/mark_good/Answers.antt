@@ -1,4 +1,4 @@
-use Rattle.std.proofs.Common.{[], arith, false, refl, rules, take_all, ◌∙◌, ◌∷◌, ◌≡◌}
+use Rattle.std.proofs.Common.{[], arith, false, refl, take_all, ◌∷◌, ◌≡◌}
 use Rattle.paper.specs.Fields.{field}
 use Rattle.paper.specs.Trays.{mark_good}
 use Rattle.field.proofs.Arms.{in_kinds}

@@ -1,4 +1,4 @@
-use Rattle.std.proofs.Common.{arith, length-drop, length-take, rules, ◌*◌, ◌+◌, ◌-◌, ◌≡◌}
+use Rattle.std.proofs.Common.{arith, length-drop, length-take, ◌*◌, ◌+◌, ◌-◌, ◌≡◌}
 use Rattle.tray.specs.Trays.{tray_record_at}
 use Rattle.tray.proofs.record_at.Goals as goal
 

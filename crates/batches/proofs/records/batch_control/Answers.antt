@@ -1,4 +1,4 @@
-use Rattle.std.proofs.Common.{arith, length, rules, ◌++◌, ◌∙◌, ◌≡◌}
+use Rattle.std.proofs.Common.{arith, length, ◌++◌, ◌∙◌, ◌≡◌}
 use Rattle.paper.specs.Fields.{bytes, field}
 use Rattle.paper.specs.Writing.{spelled, blanks}
 use Rattle.batches.specs.Sums.{sums_of}

@@ -1,4 +1,4 @@
-use Rattle.std.proofs.Common.{arith, rules}
+use Rattle.std.proofs.Common.{arith}
 use Rattle.paper.specs.Fields.{field}
 use Rattle.paper.specs.Writing.{spelled, numbered}
 use Rattle.writing.proofs.Laying.{start, on, filled}

@@ -1,4 +1,4 @@
-use Rattle.std.proofs.Common.{arith, rules}
+use Rattle.std.proofs.Common.{arith}
 use Rattle.paper.specs.Writing.{spelled}
 use Rattle.writing.proofs.Laying.{start, on}
 use Rattle.batches.proofs.records.sums.Goals as goal

@@ -1,4 +1,4 @@
-use Rattle.std.proofs.Common.{arith, rules, ◌-◌, ◌/◌, ◌≤◌}
+use Rattle.std.proofs.Common.{arith, ◌≤◌}
 use Rattle.building.proofs.Bodies.{none_numbered, places_few, numbering_few, tally_below, on_tray_lem, falls, room_for, room_long, part_there, part_long, one_numbered, all_batched, still_long}
 use Rattle.building.proofs.batch.own.Goals as goal
 use Rattle.building.proofs.batch.own.Goals.{At-loop-at}

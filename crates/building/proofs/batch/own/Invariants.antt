@@ -1,4 +1,4 @@
-use Rattle.std.proofs.Common.{length, ◌-◌, ◌/◌, ◌≤◌}
+use Rattle.std.proofs.Common.{length, ◌-◌, ◌/◌}
 use Rattle.building.proofs.Bodies.{Numbered}
 use Rattle.building.proofs.batch.own.Given as goal
 

@@ -1,4 +1,4 @@
-use Rattle.std.proofs.Common.{arith, rules}
+use Rattle.std.proofs.Common.{arith}
 use Rattle.batches.proofs.Own.{own_there, none_there}
 use Rattle.tray.proofs.Places.{bodies_at, length_bodies}
 use Rattle.building.proofs.batch.own_at.Goals as goal

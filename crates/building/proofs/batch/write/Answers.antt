@@ -1,4 +1,4 @@
-use Rattle.std.proofs.Common.{arith, rules, ◌≤◌}
+use Rattle.std.proofs.Common.{arith, ◌≤◌}
 use Rattle.building.proofs.Headed.{tail_asked, tail_few, control_fits, batch_whole, numbering_whole}
 use Rattle.building.proofs.batch.write.Goals as goal
 use Rattle.building.proofs.batch.write.Goals.{After-own-run}

@@ -1,4 +1,4 @@
-use Rattle.std.proofs.Common.{arith, rules, ◌+◌, ◌-◌, ◌∙◌, ◌≤◌}
+use Rattle.std.proofs.Common.{arith, ◌+◌, ◌∙◌, ◌≤◌}
 use borrow.Rule.Slice.PartMut.{mid_len}
 use Rattle.building.proofs.Behind.{loose_few, loose_room, headed_room, loose_asked}
 use Rattle.building.proofs.Progress.{begun, start_room, indexes_few, closed_below}

@@ -1,4 +1,3 @@
-use Rattle.std.proofs.Common.{rules}
 use Rattle.company.specs.Files.{closing_good}
 use Rattle.company.proofs.closing.good.Goals as goal
 

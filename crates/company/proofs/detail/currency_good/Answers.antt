@@ -1,4 +1,3 @@
-use Rattle.std.proofs.Common.{rules}
 use Rattle.company.specs.Details.{currency_good}
 use Rattle.company.proofs.detail.currency_good.Goals as goal
 

@@ -1,4 +1,4 @@
-use Rattle.std.proofs.Common.{ap₂, rules, ◌&&◌, ◌∙◌}
+use Rattle.std.proofs.Common.{ap₂, ◌&&◌, ◌∙◌}
 use Rattle.company.proofs.Dates.{due_by_parts}
 use Rattle.company.proofs.detail.due_good.Goals as goal
 

@@ -1,4 +1,4 @@
-use Rattle.std.proofs.Common.{ap, ltb, rules, sym, ◌∙◌}
+use Rattle.std.proofs.Common.{ap, ltb, sym, ◌∙◌}
 use Rattle.verdicts.proofs.Chain.{begun}
 use Rattle.characters.proofs.Value.{some_number}
 use Rattle.company.specs.Details.{cents_in, detail}

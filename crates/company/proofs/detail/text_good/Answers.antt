@@ -1,4 +1,4 @@
-use Rattle.std.proofs.Common.{ap, ap₂, not, rules, ◌&&◌, ◌∙◌}
+use Rattle.std.proofs.Common.{ap, ap₂, not, ◌&&◌, ◌∙◌}
 use Rattle.paper.specs.Fields.{every, good}
 use Rattle.company.specs.Details.{text_good}
 use Rattle.company.proofs.detail.text_good.Goals as goal

@@ -1,4 +1,4 @@
-use Rattle.std.proofs.Common.{ap, ap₂, arith, not, rules, sym, ◌&&◌, ◌∙◌}
+use Rattle.std.proofs.Common.{ap, ap₂, arith, not, sym, ◌&&◌, ◌∙◌}
 use Rattle.paper.specs.Fields.{every, good}
 use Rattle.company.specs.Details.{text_good}
 use Rattle.company.proofs.Texts.{part_holds}

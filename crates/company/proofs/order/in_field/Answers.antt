@@ -1,4 +1,4 @@
-use Rattle.std.proofs.Common.{arith, rules}
+use Rattle.std.proofs.Common.{arith}
 use Rattle.company.proofs.order.in_field.Goals as goal
 
 pub returns-in-Pesos : goal.returns-in-Pesos

@@ -1,4 +1,4 @@
-use Rattle.std.proofs.Common.{arith, length, rules, ◌++◌, ◌∙◌, ◌≡◌}
+use Rattle.std.proofs.Common.{arith, length, ◌++◌, ◌∙◌, ◌≡◌}
 use Rattle.paper.specs.Fields.{bytes, field}
 use Rattle.writing.proofs.Laying.{Wrote, start, on, filled}
 use Rattle.company.specs.Details.{order_to, order_of}

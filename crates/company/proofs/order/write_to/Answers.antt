@@ -1,4 +1,4 @@
-use Rattle.std.proofs.Common.{ap, arith, length, rules, ◌+◌, ◌∙◌, ◌≡◌}
+use Rattle.std.proofs.Common.{ap, arith, length, ◌+◌, ◌∙◌, ◌≡◌}
 use Rattle.paper.specs.Entities.{currency_adds}
 use Rattle.paper.specs.Fields.{bytes, field}
 use Rattle.paper.specs.Writing.{spelled}

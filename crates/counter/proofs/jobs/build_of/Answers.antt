@@ -1,4 +1,3 @@
-use Rattle.std.proofs.Common.{rules}
 use Rattle.demands.proofs.Building.{build_inside}
 use Rattle.files.proofs.Parts.{front}
 use Rattle.intake.proofs.Looking.{whole_fits}

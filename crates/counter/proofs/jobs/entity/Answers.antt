@@ -1,4 +1,3 @@
-use Rattle.std.proofs.Common.{rules}
 use Rattle.typed.proofs.Numbers.{entity_below}
 use Rattle.counter.proofs.jobs.entity.Goals as goal
 

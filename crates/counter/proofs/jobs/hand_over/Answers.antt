@@ -1,4 +1,3 @@
-use Rattle.std.proofs.Common.{rules}
 use Rattle.files.proofs.Parts.{front}
 use Rattle.counter.proofs.Written.{written}
 use Rattle.counter.proofs.jobs.hand_over.Goals as goal

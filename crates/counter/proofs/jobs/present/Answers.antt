@@ -1,4 +1,3 @@
-use Rattle.std.proofs.Common.{rules, ◌-◌}
 use Rattle.counter.proofs.jobs.present.Goals as goal
 
 pub loop-word-preserved : goal.loop-word-preserved

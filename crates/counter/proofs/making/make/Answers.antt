@@ -1,4 +1,3 @@
-use Rattle.std.proofs.Common.{rules}
 use Rattle.files.proofs.Parts.{in_file, front}
 use Rattle.counter.proofs.making.make.Goals as goal
 

@@ -1,4 +1,3 @@
-use Rattle.std.proofs.Common.{rules}
 use Rattle.counter.proofs.Members.{asked}
 use Rattle.counter.proofs.member.show_every.Goals as goal
 

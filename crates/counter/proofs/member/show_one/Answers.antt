@@ -1,4 +1,3 @@
-use Rattle.std.proofs.Common.{rules}
 use Rattle.counter.proofs.Members.{shown}
 use Rattle.counter.proofs.member.show_one.Goals as goal
 

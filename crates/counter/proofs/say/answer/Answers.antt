@@ -1,4 +1,4 @@
-use Rattle.std.proofs.Common.{length, rules, ◌∙◌, ◌≤◌}
+use Rattle.std.proofs.Common.{◌∙◌}
 use Rattle.files.proofs.Parts.{front}
 use Rattle.listing.proofs.Printing.{counted}
 use Rattle.counter.proofs.say.answer.Goals as goal

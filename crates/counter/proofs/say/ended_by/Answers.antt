@@ -1,4 +1,4 @@
-use Rattle.std.proofs.Common.{ap, rules, sym}
+use Rattle.std.proofs.Common.{ap, sym}
 use Rattle.paper.specs.declared.answer.Answer.{Answer}
 use Rattle.paper.specs.Answers.{said}
 use Rattle.counter.specs.Ending.{ended_by}

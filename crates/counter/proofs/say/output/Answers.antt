@@ -1,4 +1,3 @@
-use Rattle.std.proofs.Common.{length, rules, ◌≤◌}
 use Rattle.files.proofs.Parts.{front}
 use Rattle.listing.proofs.Printing.{counted}
 use Rattle.counter.proofs.say.output.Goals as goal

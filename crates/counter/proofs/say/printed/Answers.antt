@@ -1,4 +1,4 @@
-use Rattle.std.proofs.Common.{refl, rules}
+use Rattle.std.proofs.Common.{refl}
 use Rattle.counter.proofs.say.printed.Goals as goal
 
 pub returns-in-Err : goal.returns-in-Err

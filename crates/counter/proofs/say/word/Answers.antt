@@ -1,4 +1,4 @@
-use Rattle.std.proofs.Common.{arith, length, rules, ◌≡◌, ◌≤◌}
+use Rattle.std.proofs.Common.{arith, length, rules, ◌≡◌}
 use Rattle.files.proofs.Parts.{front}
 use Rattle.intake.proofs.Gathering.{wrong_inside}
 use Rattle.listing.proofs.Printing.{counted}

@@ -1,4 +1,4 @@
-use Rattle.std.proofs.Common.{arith, length, rules, ◌≤◌}
+use Rattle.std.proofs.Common.{arith}
 use Rattle.files.proofs.Parts.{front}
 use Rattle.counter.proofs.share.hand_out.Goals as goal
 

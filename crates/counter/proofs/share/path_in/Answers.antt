@@ -1,4 +1,4 @@
-use Rattle.std.proofs.Common.{arith, rules}
+use Rattle.std.proofs.Common.{arith}
 use Rattle.writing.proofs.Decimals.{decimal_most}
 use Rattle.counter.proofs.share.path_in.Goals as goal
 

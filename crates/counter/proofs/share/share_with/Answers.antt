@@ -1,4 +1,3 @@
-use Rattle.std.proofs.Common.{rules}
 use Rattle.files.proofs.Parts.{front}
 use Rattle.sharing.proofs.Shares.{share_inside}
 use Rattle.counter.proofs.share.share_with.Goals as goal

@@ -1,4 +1,4 @@
-use Rattle.std.proofs.Common.{rules, ◌∙◌}
+use Rattle.std.proofs.Common.{◌∙◌}
 use Rattle.paper.specs.Buffers.{entity_given}
 use Rattle.desk.proofs.Members.{asked}
 use Rattle.desk.proofs.Session.ask.Goals as goal

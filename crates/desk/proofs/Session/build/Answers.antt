@@ -1,4 +1,4 @@
-use Rattle.std.proofs.Common.{length, rules, ◌≤◌}
+use Rattle.std.proofs.Common.{length, ◌≤◌}
 use Rattle.desk.proofs.Traying.{not_built, built_part, was_built, not_read}
 use Rattle.desk.proofs.Session.build.Goals as goal
 use Rattle.desk.proofs.Session.build.Goals.{In-Accepted}

@@ -1,4 +1,4 @@
-use Rattle.std.proofs.Common.{arith, rules, sym, ◌∙◌}
+use Rattle.std.proofs.Common.{arith, sym, ◌∙◌}
 use Rattle.paper.specs.Sessions.{cell_of}
 use Rattle.desk.proofs.Rosters.{below_500}
 use Rattle.desk.proofs.Session.cell.Goals as goal

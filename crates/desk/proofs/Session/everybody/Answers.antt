@@ -1,4 +1,4 @@
-use Rattle.std.proofs.Common.{arith, length-set, refl, rules, ◌-◌, ◌∙◌}
+use Rattle.std.proofs.Common.{arith, length-set, refl, ◌∙◌}
 use Rattle.paper.specs.Listing.{numbers_to}
 use Rattle.desk.proofs.Rosters.{number_turn, number_end}
 use Rattle.desk.proofs.Session.everybody.Goals as goal

@@ -1,4 +1,4 @@
-use Rattle.std.proofs.Common.{◌-◌, ◌∙◌}
+use Rattle.std.proofs.Common.{◌-◌}
 use Rattle.desk.proofs.Rosters.{Numbered}
 use Rattle.desk.proofs.Session.everybody.Given as goal
 

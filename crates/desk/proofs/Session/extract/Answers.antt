@@ -1,4 +1,4 @@
-use Rattle.std.proofs.Common.{false, get_or, rules, sym, true, ◌&&◌, ◌∙◌, ◌≡◌}
+use Rattle.std.proofs.Common.{false, get_or, sym, true, ◌&&◌, ◌∙◌, ◌≡◌}
 use Rattle.paper.specs.Fields.{within}
 use Rattle.desk.specs.Standing.{rules_of}
 use Rattle.desk.proofs.Asking.{accepts, listed_few, not_listed, not_read, was_read}

@@ -1,4 +1,3 @@
-use Rattle.std.proofs.Common.{rules, ◌∙◌}
 use Rattle.desk.proofs.Replies.{opened_whole, opened_so}
 use Rattle.desk.proofs.Session.open.Goals as goal
 

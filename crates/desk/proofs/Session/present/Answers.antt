@@ -1,8 +1,7 @@
-use Rattle.std.proofs.Common.{List, refl, rules, set, true, ℕ, ◌≡◌}
+use Rattle.std.proofs.Common.{refl, set, true, ◌≡◌}
 use Rattle.paper.specs.Answers.{said}
 use Rattle.paper.specs.Sessions.{answer_to}
 use Rattle.paper.proofs.Accepted.{accepted_facts}
-use Rattle.desk.specs.declared.Session.{Session}
 use Rattle.desk.specs.Standing.{rules_of, standing}
 use Rattle.desk.proofs.Calls.{room}
 use Rattle.desk.proofs.Replies.{answers_so, stays, read_so, posts, presented_so}

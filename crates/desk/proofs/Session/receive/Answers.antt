@@ -1,4 +1,3 @@
-use Rattle.std.proofs.Common.{rules}
 use Rattle.paper.specs.Buffers.{entity_given}
 use Rattle.paper.specs.Receiving.{receiving}
 use Rattle.desk.proofs.Members.{stops, goes_on}

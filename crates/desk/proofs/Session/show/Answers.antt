@@ -1,4 +1,4 @@
-use Rattle.std.proofs.Common.{ap, rules, sym, ◌∙◌}
+use Rattle.std.proofs.Common.{ap, sym, ◌∙◌}
 use Rattle.paper.specs.Answers.{said}
 use Rattle.desk.proofs.Members.{short, found, not_asked}
 use Rattle.desk.proofs.Session.show.Goals as goal

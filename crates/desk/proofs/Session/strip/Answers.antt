@@ -1,4 +1,3 @@
-use Rattle.std.proofs.Common.{rules}
 use Rattle.paper.proofs.Accepted.{accepted_facts}
 use Rattle.desk.proofs.Asking.{accepts}
 use Rattle.desk.proofs.Traying.{not_stripped, was_stripped}

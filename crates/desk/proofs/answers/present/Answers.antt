@@ -1,4 +1,3 @@
-use Rattle.std.proofs.Common.{rules}
 use Rattle.desk.proofs.answers.present.Goals as goal
 
 pub returns : goal.returns

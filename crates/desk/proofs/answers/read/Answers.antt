@@ -1,4 +1,3 @@
-use Rattle.std.proofs.Common.{rules}
 use Rattle.paper.specs.Reading.{reading}
 use Rattle.desk.proofs.answers.read.Goals as goal
 

@@ -1,4 +1,4 @@
-use Rattle.std.proofs.Common.{ap, rules, sym, ◌∙◌}
+use Rattle.std.proofs.Common.{ap, sym, ◌∙◌}
 use Rattle.reading.specs.Said.{reading_says}
 use Rattle.desk.proofs.answers.read_by.Goals as goal
 

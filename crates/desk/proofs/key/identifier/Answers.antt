@@ -1,4 +1,3 @@
-use Rattle.std.proofs.Common.{rules}
 use Rattle.desk.proofs.Keys.{digit_low, capital_low, of_digit, of_capital}
 use Rattle.desk.proofs.key.identifier.Goals as goal
 

@@ -1,4 +1,4 @@
-use Rattle.std.proofs.Common.{arith, rules, sym, true, ◌∙◌, ◌≡◌}
+use Rattle.std.proofs.Common.{arith, sym, true, ◌∙◌, ◌≡◌}
 use Rattle.paper.specs.Fields.{field, identifier_field}
 use Rattle.paper.specs.Sessions.{origin_of, identifier_of, key_of}
 use Rattle.desk.proofs.Keys.{too_short, no_identifier, key_of_lem, byte_34}

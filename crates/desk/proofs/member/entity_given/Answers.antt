@@ -1,4 +1,3 @@
-use Rattle.std.proofs.Common.{rules}
 use Rattle.paper.specs.Answers.{require}
 use Rattle.desk.proofs.member.entity_given.Goals as goal
 

@@ -1,4 +1,4 @@
-use Rattle.std.proofs.Common.{arith, refl, rules, ◌-◌}
+use Rattle.std.proofs.Common.{arith, refl}
 use Rattle.paper.specs.Fields.{within}
 use Rattle.characters.proofs.Scan.{test_turn, test_end}
 use Rattle.desk.proofs.roster.all_entities.Goals as goal

@@ -1,4 +1,4 @@
-use Rattle.std.proofs.Common.{rules, sym, ◌∙◌}
+use Rattle.std.proofs.Common.{sym, ◌∙◌}
 use Rattle.desk.proofs.Rosters.{below_500}
 use Rattle.desk.proofs.roster.is_listed.Goals as goal
 

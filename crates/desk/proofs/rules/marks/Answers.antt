@@ -1,4 +1,4 @@
-use Rattle.std.proofs.Common.{arith, rules, sym, ◌-◌}
+use Rattle.std.proofs.Common.{arith, sym}
 use Rattle.paper.proofs.Rosters.{listed_none}
 use Rattle.desk.proofs.Rosters.{entity_at, mark_turn, mark_end}
 use Rattle.desk.proofs.rules.marks.Goals as goal

@@ -1,4 +1,4 @@
-use Rattle.std.proofs.Common.{refl, rules}
+use Rattle.std.proofs.Common.{refl}
 use Rattle.paper.specs.Fields.{every}
 use Rattle.desk.proofs.rules.not_opened.Goals as goal
 

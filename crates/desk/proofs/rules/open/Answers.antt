@@ -1,4 +1,4 @@
-use Rattle.std.proofs.Common.{ap, rules, sym, true, ◌∙◌, ◌≡◌}
+use Rattle.std.proofs.Common.{ap, sym, true, ◌∙◌, ◌≡◌}
 use Rattle.paper.specs.Fields.{every, within}
 use Rattle.paper.specs.Dates.{is_date}
 use Rattle.desk.proofs.Replies.{rules_in, bad_date, bad_entity, opens}

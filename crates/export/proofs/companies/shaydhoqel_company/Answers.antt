@@ -1,4 +1,3 @@
-use Rattle.std.proofs.Common.{rules}
 use Rattle.export.proofs.companies.shaydhoqel_company.Goals as goal
 
 pub returns : goal.returns

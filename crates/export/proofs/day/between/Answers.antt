@@ -1,4 +1,3 @@
-use Rattle.std.proofs.Common.{rules}
 use Rattle.export.proofs.Days.{part_within}
 use Rattle.export.proofs.day.between.Goals as goal
 

@@ -1,4 +1,4 @@
-use Rattle.std.proofs.Common.{arith, refl, rules, ◌-◌, ◌∙◌, ◌≡◌}
+use Rattle.std.proofs.Common.{arith, refl, ◌∙◌}
 use Rattle.desk.specs.Standing.{standing}
 use Rattle.export.specs.Day.{turns_of}
 use Rattle.export.proofs.Days.{one_turn, last_turn}

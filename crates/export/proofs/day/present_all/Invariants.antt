@@ -1,4 +1,4 @@
-use Rattle.std.proofs.Common.{List, drop, length, ℕ, ◌-◌, ◌∙◌, ◌≡◌}
+use Rattle.std.proofs.Common.{List, drop, length, ℕ, ◌-◌, ◌≡◌}
 use Rattle.desk.specs.declared.Session.{Session}
 use Rattle.desk.specs.Standing.{standing}
 use Rattle.desk.specs.Calls.{Reachable}

@@ -1,4 +1,3 @@
-use Rattle.std.proofs.Common.{rules, ◌∙◌}
 use Rattle.desk.proofs.Calls.{room}
 use Rattle.export.specs.Day.{day_closed, day_of}
 use Rattle.export.proofs.Opened.{said_refused, done_there}

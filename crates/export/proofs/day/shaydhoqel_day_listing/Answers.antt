@@ -1,4 +1,4 @@
-use Rattle.std.proofs.Common.{rules, ◌∙◌}
+use Rattle.std.proofs.Common.{◌∙◌}
 use Rattle.paper.specs.Buffers.{written}
 use Rattle.export.specs.Spoken.{delivered_of}
 use Rattle.export.specs.Day.{day_listed}

@@ -1,4 +1,4 @@
-use Rattle.std.proofs.Common.{rules, ◌∙◌}
+use Rattle.std.proofs.Common.{◌∙◌}
 use Rattle.export.proofs.Opened.{said_refused, done_there}
 use Rattle.export.proofs.extract.shaydhoqel_extract.Goals as goal
 

@@ -1,4 +1,4 @@
-use Rattle.std.proofs.Common.{arith, get_or, length, length-set, pos, refl, rules, sym, ◌-◌, ◌<◌, ◌∙◌, ◌≡◌, ◌≤◌}
+use Rattle.std.proofs.Common.{arith, get_or, length, length-set, pos, refl, rules, sym, ◌<◌, ◌∙◌, ◌≡◌}
 use mir.Syntax.{w64}
 use mir.Facts.{to_z-of_z}
 use Rattle.export.specs.Day.{figures_of}

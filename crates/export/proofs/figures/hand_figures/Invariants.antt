@@ -1,4 +1,4 @@
-use Rattle.std.proofs.Common.{List, length, ℕ, ℤ, ◌-◌, ◌<◌, ◌∙◌, ◌≡◌, ◌≤◌}
+use Rattle.std.proofs.Common.{List, length, ℕ, ℤ, ◌-◌, ◌≡◌, ◌≤◌}
 use Rattle.paper.specs.declared.ledger.Cell.{Cell}
 use Rattle.export.specs.Day.{figures_of}
 use Rattle.export.proofs.FigureLaws.{Through}

@@ -1,4 +1,4 @@
-use Rattle.std.proofs.Common.{arith, refl, rules, sym, ◌-◌, ◌∙◌, ◌≡◌}
+use Rattle.std.proofs.Common.{arith, refl, sym, ◌∙◌}
 use native.Mathlib.Nat.{sub-zero}
 use Rattle.export.proofs.Texts.{one_more, no_more}
 use Rattle.export.proofs.member.hand_texts.Goals as goal

@@ -1,4 +1,4 @@
-use Rattle.std.proofs.Common.{List, length, ℕ, ◌-◌, ◌∙◌, ◌≡◌}
+use Rattle.std.proofs.Common.{List, length, ℕ, ◌-◌, ◌≡◌}
 use Rattle.export.specs.Member.{text_found, texts_from}
 use Rattle.export.proofs.member.hand_texts.Given as goal
 

@@ -1,4 +1,3 @@
-use Rattle.std.proofs.Common.{rules}
 use Rattle.export.specs.Spoken.{spoken_of}
 use Rattle.export.specs.Member.{start_of, shown_of}
 use Rattle.export.proofs.member.speak_text.Goals as goal

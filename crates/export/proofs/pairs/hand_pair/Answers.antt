@@ -1,4 +1,4 @@
-use Rattle.std.proofs.Common.{arith, length-set, rules}
+use Rattle.std.proofs.Common.{arith, length-set}
 use Rattle.export.proofs.PairLaws.{both_written, none_written}
 use Rattle.export.proofs.pairs.hand_pair.Goals as goal
 

@@ -1,4 +1,4 @@
-use Rattle.std.proofs.Common.{arith, rules, ◌-◌, ◌≤◌}
+use Rattle.std.proofs.Common.{arith, ◌≤◌}
 use Rattle.batches.proofs.Copying.{none_copied}
 use Rattle.extract.proofs.Batches.{places_few, tally_below, inside, falls, room_for, room_long, one_done, all_batched, still_long}
 use Rattle.extract.proofs.batch.own.Goals as goal

@@ -1,4 +1,4 @@
-use Rattle.std.proofs.Common.{length, ◌-◌, ◌≤◌}
+use Rattle.std.proofs.Common.{length, ◌-◌}
 use Rattle.batches.proofs.Copying.{Copied}
 use Rattle.picking.specs.Places.{chosen}
 use Rattle.extract.proofs.batch.own.Given as goal

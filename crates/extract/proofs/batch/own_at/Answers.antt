@@ -1,4 +1,4 @@
-use Rattle.std.proofs.Common.{arith, rules}
+use Rattle.std.proofs.Common.{arith}
 use Rattle.batches.proofs.Own.{own_there, none_there}
 use Rattle.picking.proofs.Chosen.{length_chosen, at_index}
 use Rattle.extract.proofs.batch.own_at.Goals as goal

@@ -1,4 +1,4 @@
-use Rattle.std.proofs.Common.{arith, rules, ◌≤◌}
+use Rattle.std.proofs.Common.{arith, ◌≤◌}
 use Rattle.extract.proofs.Batches.{rest_asked, rest_few, control_fits, batch_whole}
 use Rattle.extract.proofs.batch.write.Goals as goal
 use Rattle.extract.proofs.batch.write.Goals.{After-own-batch}

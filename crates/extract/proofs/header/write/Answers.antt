@@ -1,4 +1,4 @@
-use Rattle.std.proofs.Common.{arith, length, rules, ◌++◌, ◌∙◌, ◌≡◌}
+use Rattle.std.proofs.Common.{arith, length, ◌++◌, ◌∙◌, ◌≡◌}
 use Rattle.paper.specs.Fields.{field}
 use Rattle.paper.specs.Writing.{spelled}
 use Rattle.writing.proofs.Laying.{Wrote, start, on, filled}

@@ -1,4 +1,4 @@
-use Rattle.std.proofs.Common.{arith, length-take-le, rules, ◌+◌, ◌-◌, ◌∙◌, ◌≤◌}
+use Rattle.std.proofs.Common.{arith, length-take-le, ◌+◌, ◌∙◌, ◌≤◌}
 use borrow.Rule.Slice.PartMut.{mid_len}
 use Rattle.paper.proofs.Accepted.{accepted_facts}
 use Rattle.extract.proofs.Progress.{header_room, begun, indexes_few, start_room, closed_below, batch_asked, batch_few, batch_below, batch_done, end_room, end_few, extract_long, extract_whole}

@@ -1,4 +1,4 @@
-use Rattle.std.proofs.Common.{length, ◌+◌, ◌-◌, ◌∙◌, ◌≤◌}
+use Rattle.std.proofs.Common.{length, ◌-◌}
 use Rattle.extract.proofs.Progress.{Progress}
 use Rattle.extract.proofs.whole.write.Given as goal
 

@@ -1,4 +1,3 @@
-use Rattle.std.proofs.Common.{rules}
 use Rattle.intake.proofs.Looking.{to_end, not_through, answers}
 use Rattle.intake.proofs.long.answered.Goals as goal
 

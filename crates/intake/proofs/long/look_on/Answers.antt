@@ -1,4 +1,3 @@
-use Rattle.std.proofs.Common.{rules}
 use Rattle.files.proofs.Parts.{read_further, not_filled, front}
 use Rattle.intake.proofs.long.look_on.Goals as goal
 

@@ -1,4 +1,4 @@
-use Rattle.std.proofs.Common.{arith, length, rules, sym, ◌-◌, ◌∙◌, ◌≡◌}
+use Rattle.std.proofs.Common.{arith, length, rules, sym, ◌∙◌, ◌≡◌}
 use Rattle.files.proofs.Parts.{nearer}
 use Rattle.intake.proofs.Looking.{piece_looked, not_looked, goes_on, ends}
 use Rattle.intake.proofs.long.look_through.Goals as goal

@@ -1,4 +1,4 @@
-use Rattle.std.proofs.Common.{◌-◌, ◌∙◌, ◌≡◌}
+use Rattle.std.proofs.Common.{◌-◌}
 use Rattle.files.specs.Sources.{handed_by, most_handed}
 use Rattle.looking.specs.declared.Form.{Form}
 use Rattle.intake.specs.Looking.{LongSoFar}

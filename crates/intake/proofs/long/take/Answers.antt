@@ -1,4 +1,3 @@
-use Rattle.std.proofs.Common.{rules}
 use Rattle.files.proofs.Parts.{just_opened, failed_under}
 use Rattle.intake.proofs.long.take.Goals as goal
 

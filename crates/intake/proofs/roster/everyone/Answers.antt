@@ -1,4 +1,4 @@
-use Rattle.std.proofs.Common.{ap, arith, length, length-set, refl, rules, ◌-◌, ◌∙◌, ◌≡◌, ◌≤◌}
+use Rattle.std.proofs.Common.{ap, arith, length, length-set, refl, rules, ◌∙◌, ◌≡◌}
 use Rattle.paper.specs.Buffers.{over}
 use Rattle.intake.proofs.Gathering.{numbers_length, copy_turn, copy_end}
 use Rattle.intake.proofs.roster.everyone.Goals as goal

@@ -1,4 +1,4 @@
-use Rattle.std.proofs.Common.{rules, sym, ◌∙◌}
+use Rattle.std.proofs.Common.{sym, ◌∙◌}
 use Rattle.files.proofs.Parts.{just_opened, failed_under}
 use Rattle.intake.proofs.Gathering.{gathered, all_gathered, none_gathered}
 use Rattle.intake.proofs.roster.gather.Goals as goal

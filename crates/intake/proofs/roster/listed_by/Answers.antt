@@ -1,4 +1,4 @@
-use Rattle.std.proofs.Common.{refl, rules, ◌∙◌}
+use Rattle.std.proofs.Common.{refl, ◌∙◌}
 use Rattle.intake.proofs.roster.listed_by.Goals as goal
 
 pub returns-in-Bytes : goal.returns-in-Bytes

@@ -1,4 +1,4 @@
-use Rattle.std.proofs.Common.{ap, arith, length, rules, subst, sym, ◌-◌, ◌∙◌, ◌≡◌}
+use Rattle.std.proofs.Common.{ap, arith, length, rules, subst, sym, ◌∙◌, ◌≡◌}
 use Rattle.typed.specs.Texts.{text_begun}
 use Rattle.files.proofs.Parts.{read_further, nearer}
 use Rattle.files.specs.declared.taking.Filled.{Filled}

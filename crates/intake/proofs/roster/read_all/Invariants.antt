@@ -1,4 +1,4 @@
-use Rattle.std.proofs.Common.{◌-◌, ◌∙◌, ◌≡◌}
+use Rattle.std.proofs.Common.{◌-◌}
 use Rattle.files.specs.Sources.{handed_by, most_handed}
 use Rattle.intake.specs.Gathering.{WholeRead}
 use Rattle.intake.proofs.roster.read_all.Given as goal

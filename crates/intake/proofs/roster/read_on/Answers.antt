@@ -1,4 +1,3 @@
-use Rattle.std.proofs.Common.{rules}
 use Rattle.files.proofs.Parts.{read_further, front}
 use Rattle.intake.proofs.roster.read_on.Goals as goal
 

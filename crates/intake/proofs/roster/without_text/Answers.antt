@@ -1,4 +1,4 @@
-use Rattle.std.proofs.Common.{ap, refl, rules, ◌∙◌}
+use Rattle.std.proofs.Common.{ap, refl, ◌∙◌}
 use Rattle.typed.specs.Texts.{text_begun}
 use Rattle.watch.specs.Watches.{watch_at}
 use Rattle.intake.proofs.roster.without_text.Goals as goal

@@ -1,4 +1,4 @@
-use Rattle.std.proofs.Common.{arith, rules, sym}
+use Rattle.std.proofs.Common.{arith, sym}
 use Rattle.paper.specs.Answers.{said}
 use Rattle.paper.specs.Listing.{line_feed}
 use Rattle.writing.proofs.Laying.{start as begun, on, whole}

@@ -1,4 +1,4 @@
-use Rattle.std.proofs.Common.{ap, arith, refl, rules, sym, ℕ, ◌++◌, ◌∙◌}
+use Rattle.std.proofs.Common.{ap, arith, refl, sym, ℕ, ◌++◌, ◌∙◌}
 use Rattle.paper.specs.declared.answer.Answer.{Answer}
 use Rattle.paper.specs.Answers.{said}
 use Rattle.paper.specs.Buffers.{over}

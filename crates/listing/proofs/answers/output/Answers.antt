@@ -1,4 +1,4 @@
-use Rattle.std.proofs.Common.{[], ap, arith, length, rules, sym, ◌++◌, ◌≤◌}
+use Rattle.std.proofs.Common.{[], ap, arith, length, sym, ◌++◌, ◌≤◌}
 use Rattle.paper.specs.declared.answer.Output.{Output}
 use Rattle.paper.specs.Buffers.{told}
 use Rattle.paper.specs.Fields.{bytes}

@@ -1,4 +1,4 @@
-use Rattle.std.proofs.Common.{rules, sym, ◌∙◌}
+use Rattle.std.proofs.Common.{sym, ◌∙◌}
 use Rattle.listing.proofs.Taking.{no_currency, in_dollars, in_pesos}
 use Rattle.listing.proofs.input.currency.Goals as goal
 

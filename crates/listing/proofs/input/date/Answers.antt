@@ -1,4 +1,4 @@
-use Rattle.std.proofs.Common.{rules, sym, ◌∙◌}
+use Rattle.std.proofs.Common.{sym, ◌∙◌}
 use Rattle.listing.proofs.Taking.{no_date, bad_date, its_date}
 use Rattle.listing.proofs.input.date.Goals as goal
 

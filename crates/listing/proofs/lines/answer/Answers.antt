@@ -1,4 +1,4 @@
-use Rattle.std.proofs.Common.{ap, rules, sym, ℕ, ◌∙◌}
+use Rattle.std.proofs.Common.{ap, sym, ℕ, ◌∙◌}
 use Rattle.paper.specs.declared.answer.Answer.{Answer}
 use Rattle.paper.specs.Answers.{refused, said}
 use Rattle.listing.specs.Answers.{answer_words}

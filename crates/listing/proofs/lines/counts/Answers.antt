@@ -1,4 +1,4 @@
-use Rattle.std.proofs.Common.{[], arith, rules}
+use Rattle.std.proofs.Common.{[], arith}
 use Rattle.paper.specs.Fields.{bytes}
 use Rattle.paper.specs.Listing.{decimal}
 use Rattle.writing.proofs.Decimals.{decimal_most}

@@ -1,4 +1,4 @@
-use Rattle.std.proofs.Common.{[], arith, rules}
+use Rattle.std.proofs.Common.{[], arith}
 use Rattle.paper.specs.Answers.{refused}
 use Rattle.paper.specs.Listing.{line_feed, refusal_line}
 use Rattle.writing.proofs.Laying.{Wrote, start as begun, on}

@@ -1,4 +1,4 @@
-use Rattle.std.proofs.Common.{[], arith, get_or, refl, rules, sym, ◌*◌, ◌++◌, ◌+◌, ◌-◌, ◌∙◌, ◌≡◌, ◌≤◌}
+use Rattle.std.proofs.Common.{[], arith, get_or, refl, rules, sym, ◌+◌, ◌∙◌, ◌≡◌}
 use Rattle.paper.specs.Fields.{bytes}
 use Rattle.paper.specs.Listing.{entity_line, entity_lines, figures_line, cell_sums}
 use Rattle.paper.specs.Sessions.{zero_cell}

@@ -1,4 +1,4 @@
-use Rattle.std.proofs.Common.{List, arith, ℕ, ◌*◌, ◌++◌, ◌+◌, ◌-◌, ◌∙◌, ◌≡◌, ◌≤◌}
+use Rattle.std.proofs.Common.{List, arith, ℕ, ◌*◌, ◌++◌, ◌+◌, ◌-◌, ◌≡◌, ◌≤◌}
 use Rattle.paper.specs.declared.ledger.Cell.{Cell}
 use Rattle.paper.specs.Fields.{bytes}
 use Rattle.paper.specs.Listing.{line_feed, entity_lines, cell_sums}

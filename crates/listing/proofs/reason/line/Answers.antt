@@ -1,4 +1,4 @@
-use Rattle.std.proofs.Common.{ap, refl, rules, sym, ◌∙◌}
+use Rattle.std.proofs.Common.{ap, refl, sym, ◌∙◌}
 use Rattle.paper.specs.Answers.{said}
 use Rattle.paper.specs.Buffers.{over}
 use Rattle.listing.proofs.Printing.{retold}

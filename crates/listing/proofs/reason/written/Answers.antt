@@ -1,4 +1,4 @@
-use Rattle.std.proofs.Common.{arith, rules}
+use Rattle.std.proofs.Common.{arith}
 use Rattle.paper.specs.Fields.{bytes}
 use Rattle.paper.specs.Listing.{decimal, line_feed}
 use Rattle.writing.proofs.Decimals.{decimal_most}

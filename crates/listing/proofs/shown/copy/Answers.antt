@@ -1,4 +1,4 @@
-use Rattle.std.proofs.Common.{append-nil, arith, drop_of_length-le, length-set, rules, take_all, ◌++◌, ◌-◌, ◌∙◌, ◌≡◌, ◌≤◌}
+use Rattle.std.proofs.Common.{append-nil, arith, drop_of_length-le, length-set, take_all, ◌∙◌}
 use Rattle.writing.proofs.Stores.{copy_turn}
 use Rattle.listing.specs.Answers.{shown}
 use Rattle.listing.proofs.Showing.{length_shown, shown_at}

@@ -1,4 +1,4 @@
-use Rattle.std.proofs.Common.{drop, length, take, ◌++◌, ◌-◌, ◌∙◌, ◌≡◌, ◌≤◌}
+use Rattle.std.proofs.Common.{drop, length, take, ◌++◌, ◌-◌, ◌≡◌, ◌≤◌}
 use Rattle.listing.specs.Answers.{shown}
 use Rattle.listing.proofs.shown.copy.Given as goal
 

@@ -1,4 +1,4 @@
-use Rattle.std.proofs.Common.{arith, length, length-take-le, rules, sym, take, ◌+◌, ◌∙◌, ◌≡◌}
+use Rattle.std.proofs.Common.{arith, length, length-take-le, sym, take, ◌+◌, ◌∙◌, ◌≡◌}
 use borrow.Rule.Slice.PartMut.{mid_len}
 use Rattle.writing.proofs.Laying.{part_laid}
 use Rattle.listing.specs.Answers.{shown}

@@ -1,4 +1,3 @@
-use Rattle.std.proofs.Common.{rules}
 use Rattle.looking.proofs.Sought.begun.Goals as goal
 
 pub returns-in-Tray : goal.returns-in-Tray

@@ -1,4 +1,4 @@
-use Rattle.std.proofs.Common.{refl, rules}
+use Rattle.std.proofs.Common.{refl}
 use Rattle.state.specs.States.{after_by}
 use Rattle.state.proofs.State.after.Goals as goal
 

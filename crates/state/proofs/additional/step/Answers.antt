@@ -1,4 +1,4 @@
-use Rattle.std.proofs.Common.{refl, rules, sym}
+use Rattle.std.proofs.Common.{refl, sym}
 use Rattle.paper.specs.Reading.{fields}
 use Rattle.verdicts.specs.Verdicts.{check_of}
 use Rattle.state.specs.States.{meant}

@@ -1,4 +1,4 @@
-use Rattle.std.proofs.Common.{refl, rules, sym, ◌∙◌}
+use Rattle.std.proofs.Common.{refl, sym, ◌∙◌}
 use Rattle.state.proofs.columns.batch.Goals as goal
 
 pub returns-then-opens_batch : goal.returns-then-opens_batch

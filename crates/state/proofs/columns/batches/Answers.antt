@@ -1,4 +1,4 @@
-use Rattle.std.proofs.Common.{rules, sym, ◌∙◌}
+use Rattle.std.proofs.Common.{sym, ◌∙◌}
 use Rattle.state.proofs.columns.batches.Goals as goal
 
 pub returns-then-opens_batch : goal.returns-then-opens_batch

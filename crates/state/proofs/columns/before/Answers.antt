@@ -1,4 +1,4 @@
-use Rattle.std.proofs.Common.{refl, rules}
+use Rattle.std.proofs.Common.{refl}
 use Rattle.paper.specs.Reading.{before_next}
 use Rattle.state.proofs.columns.before.Goals as goal
 

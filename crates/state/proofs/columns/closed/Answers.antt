@@ -1,4 +1,4 @@
-use Rattle.std.proofs.Common.{rules, sym, ◌∙◌}
+use Rattle.std.proofs.Common.{sym, ◌∙◌}
 use Rattle.state.proofs.columns.closed.Goals as goal
 
 pub returns-then-closes_batch : goal.returns-then-closes_batch

@@ -1,4 +1,4 @@
-use Rattle.std.proofs.Common.{Bool, ap, ltb, refl, rules, sym, ◌&&◌, ◌∙◌}
+use Rattle.std.proofs.Common.{Bool, ap, ltb, refl, sym, ◌&&◌, ◌∙◌}
 use Rattle.state.proofs.columns.highest.Goals as goal
 
 pub returns-then-opens_batch-counter : goal.returns-then-opens_batch-counter

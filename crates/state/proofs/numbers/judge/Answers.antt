@@ -1,4 +1,4 @@
-use Rattle.std.proofs.Common.{eq-eqb, le-ltb, lt-ltb, ne_eqb, rules, ◌∙◌}
+use Rattle.std.proofs.Common.{eq-eqb, le-ltb, lt-ltb, ne_eqb, ◌∙◌}
 use Rattle.state.specs.States.{NumberSays}
 use Rattle.state.proofs.Numbering.{new_above, by_above, by_look}
 use Rattle.state.proofs.numbers.judge.Goals as goal

@@ -1,4 +1,4 @@
-use Rattle.std.proofs.Common.{[], arith, length, refl, rules, ◌*◌, ◌∷◌}
+use Rattle.std.proofs.Common.{[], arith, length, refl, ◌*◌, ◌∷◌}
 use Rattle.paper.specs.Trays.{marked}
 use Rattle.field.proofs.Arms.{in_kinds}
 use Rattle.strip.proofs.Becoming.{tray_bytes_lem}

@@ -1,4 +1,4 @@
-use Rattle.std.proofs.Common.{[], refl, rules, ◌∷◌}
+use Rattle.std.proofs.Common.{[], refl, ◌∷◌}
 use Rattle.paper.specs.Fields.{bytes}
 use Rattle.paper.specs.Writing.{joined}
 use Rattle.paper.specs.Trays.{marked}

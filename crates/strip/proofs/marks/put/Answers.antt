@@ -1,4 +1,4 @@
-use Rattle.std.proofs.Common.{append_assoc, arith, rules, ◌∙◌}
+use Rattle.std.proofs.Common.{append_assoc, arith, ◌∙◌}
 use Rattle.paper.specs.Fields.{bytes, field}
 use Rattle.paper.specs.Trays.{zeroed}
 use Rattle.writing.proofs.Laying.{start, on, whole}

@@ -1,4 +1,4 @@
-use Rattle.std.proofs.Common.{ap, arith, refl, rules, sym, ⊎_elim, ◌∙◌, ◌≡◌}
+use Rattle.std.proofs.Common.{ap, arith, refl, sym, ◌∙◌, ◌≡◌}
 use Rattle.paper.specs.Answers.{said, and_then}
 use Rattle.paper.specs.Trays.{tray_records}
 use Rattle.tray.proofs.Places.{length_records}

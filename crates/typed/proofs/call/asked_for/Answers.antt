@@ -1,4 +1,4 @@
-use Rattle.std.proofs.Common.{rules, sym, ◌∙◌}
+use Rattle.std.proofs.Common.{sym, ◌∙◌}
 use Rattle.typed.specs.Asking.{asked_for}
 use Rattle.typed.proofs.call.asked_for.Goals as goal
 

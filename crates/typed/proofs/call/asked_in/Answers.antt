@@ -1,4 +1,4 @@
-use Rattle.std.proofs.Common.{rules, sym, ◌∙◌}
+use Rattle.std.proofs.Common.{sym, ◌∙◌}
 use Rattle.typed.specs.Asking.{asked_in}
 use Rattle.typed.proofs.call.asked_in.Goals as goal
 

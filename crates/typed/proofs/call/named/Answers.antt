@@ -1,4 +1,4 @@
-use Rattle.std.proofs.Common.{rules, sym, ◌∙◌}
+use Rattle.std.proofs.Common.{sym, ◌∙◌}
 use Rattle.typed.specs.Asking.{money_typed}
 use Rattle.typed.proofs.call.named.Goals as goal
 

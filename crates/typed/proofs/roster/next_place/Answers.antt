@@ -1,4 +1,4 @@
-use Rattle.std.proofs.Common.{le-ltb, lt-ltb, rules, ◌^◌}
+use Rattle.std.proofs.Common.{le-ltb, lt-ltb, ◌^◌}
 use Rattle.typed.specs.Rosters.{next_place}
 use Rattle.typed.proofs.roster.next_place.Goals as goal
 

@@ -1,4 +1,4 @@
-use Rattle.std.proofs.Common.{arith, le-ltb, lt-ltb, rules}
+use Rattle.std.proofs.Common.{arith, le-ltb, lt-ltb}
 use Rattle.typed.specs.Rosters.{noted}
 use Rattle.typed.proofs.roster.note.Goals as goal
 

@@ -1,4 +1,4 @@
-use Rattle.std.proofs.Common.{eq-eqb, ne_eqb, rules, ◌∙◌}
+use Rattle.std.proofs.Common.{eq-eqb, ne_eqb, ◌∙◌}
 use Rattle.typed.specs.Words.{date_typed}
 use Rattle.typed.proofs.Steps.{whole}
 use Rattle.typed.proofs.words.date.Goals as goal

@@ -1,4 +1,3 @@
-use Rattle.std.proofs.Common.{rules}
 use Rattle.typed.specs.Words.{entity_typed}
 use Rattle.typed.proofs.words.entity.Goals as goal
 

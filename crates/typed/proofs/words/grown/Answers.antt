@@ -1,4 +1,4 @@
-use Rattle.std.proofs.Common.{arith, le-leb, rules, sym, true, ◌∙◌, ◌≡◌}
+use Rattle.std.proofs.Common.{arith, le-leb, sym, true, ◌∙◌, ◌≡◌}
 use borrow.Author.Tests.{lt-leb}
 use Rattle.paper.specs.Fields.{digit}
 use Rattle.paper.proofs.Tests.{T_of}

@@ -1,4 +1,4 @@
-use Rattle.std.proofs.Common.{arith, refl, rules, ◌-◌}
+use Rattle.std.proofs.Common.{arith, refl}
 use Rattle.typed.specs.Words.{grown_by}
 use Rattle.typed.proofs.Steps.{pass_turn, pass_end}
 use Rattle.typed.proofs.words.grown_by.Goals as goal

@@ -1,4 +1,4 @@
-use Rattle.std.proofs.Common.{refl, rules, ◌∙◌}
+use Rattle.std.proofs.Common.{refl, ◌∙◌}
 use Rattle.typed.proofs.Steps.{whole, nothing}
 use Rattle.typed.proofs.words.is.Goals as goal
 

@@ -1,4 +1,3 @@
-use Rattle.std.proofs.Common.{rules}
 use Rattle.typed.proofs.Places.{no_word, a_word}
 use Rattle.typed.proofs.words.place.Goals as goal
 

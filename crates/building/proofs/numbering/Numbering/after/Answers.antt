@@ -1,4 +1,4 @@
-use Rattle.std.proofs.Common.{[], add-one, refl, rules, ◌∷◌}
+use Rattle.std.proofs.Common.{[], add-one, refl, ◌∷◌}
 use Rattle.paper.specs.Trays.{batches_after, individuals_after}
 use Rattle.field.proofs.Arms.{in_kinds}
 use Rattle.building.specs.Numbering.{after}

@@ -1,4 +1,4 @@
-use Rattle.std.proofs.Common.{[], refl, rules, ◌∷◌}
+use Rattle.std.proofs.Common.{[], refl, ◌∷◌}
 use Rattle.field.proofs.Arms.{in_kinds}
 use Rattle.building.specs.Numbering.{last_number}
 use borrow.Enum.Refused.{opened}

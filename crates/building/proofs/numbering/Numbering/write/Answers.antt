@@ -1,4 +1,3 @@
-use Rattle.std.proofs.Common.{rules}
 use Rattle.building.proofs.numbering.Numbering.write.Goals as goal
 
 pub returns : goal.returns

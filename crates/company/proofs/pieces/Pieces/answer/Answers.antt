@@ -1,4 +1,4 @@
-use Rattle.std.proofs.Common.{arith, eq-eqb, le-ltb, lt-ltb, ne_eqb, refl, rules, sym, ◌∙◌}
+use Rattle.std.proofs.Common.{arith, eq-eqb, le-ltb, lt-ltb, ne_eqb, refl, sym, ◌∙◌}
 use Rattle.paper.specs.Answers.{and_then, require}
 use Rattle.company.proofs.pieces.Pieces.answer.Goals as goal
 

@@ -1,4 +1,4 @@
-use Rattle.std.proofs.Common.{ap, arith, refl, rules, sym, ℕ, ◌∙◌, ◌≡◌}
+use Rattle.std.proofs.Common.{ap, arith, refl, sym, ℕ, ◌∙◌, ◌≡◌}
 use Rattle.paper.specs.Answers.{Said, said, accepted, refused, and_then}
 use Rattle.company.specs.Seen.{sum_if}
 use Rattle.paper.proofs.Refusals.{both_accept, and_then_assoc}

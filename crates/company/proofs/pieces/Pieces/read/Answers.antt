@@ -1,4 +1,4 @@
-use Rattle.std.proofs.Common.{arith, eq-eqb, eqb, le-leb, length, ne_eqb, refl, rules}
+use Rattle.std.proofs.Common.{arith, eq-eqb, eqb, le-leb, length, ne_eqb, refl}
 use mathlib.Core.Bool.{and-false}
 use borrow.Author.Tests.{lt-leb}
 use Rattle.paper.proofs.Tests.{not_both}

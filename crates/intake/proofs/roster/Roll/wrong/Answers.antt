@@ -1,4 +1,4 @@
-use Rattle.std.proofs.Common.{rules, ◌∙◌}
+use Rattle.std.proofs.Common.{◌∙◌}
 use Rattle.intake.proofs.roster.Roll.wrong.Goals as goal
 
 pub returns : goal.returns

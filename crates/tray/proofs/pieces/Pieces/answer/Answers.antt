@@ -1,4 +1,4 @@
-use Rattle.std.proofs.Common.{arith, eq-eqb, ne_eqb, refl, rules}
+use Rattle.std.proofs.Common.{arith, eq-eqb, ne_eqb, refl}
 use Rattle.paper.specs.Answers.{and_then, require}
 use Rattle.tray.proofs.pieces.Pieces.answer.Goals as goal
 

@@ -1,4 +1,4 @@
-use Rattle.std.proofs.Common.{arith, refl, rules}
+use Rattle.std.proofs.Common.{arith, refl}
 use Rattle.tray.proofs.pieces.Pieces.read.Goals as goal
 
 pub returns-then-self-gt-MOST : goal.returns-then-self-gt-MOST

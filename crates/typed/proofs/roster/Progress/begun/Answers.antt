@@ -1,4 +1,4 @@
-use Rattle.std.proofs.Common.{Bool, ap, rules, sym}
+use Rattle.std.proofs.Common.{Bool, ap, sym}
 use Rattle.typed.specs.Rosters.{begun_if}
 use Rattle.typed.proofs.roster.Progress.begun.Goals as goal
 

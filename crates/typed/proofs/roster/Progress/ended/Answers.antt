@@ -1,4 +1,4 @@
-use Rattle.std.proofs.Common.{refl, rules}
+use Rattle.std.proofs.Common.{refl}
 use Rattle.typed.specs.Rosters.{marks_after, progress_after}
 use Rattle.typed.proofs.roster.Progress.ended.Goals as goal
 

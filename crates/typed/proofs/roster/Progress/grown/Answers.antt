@@ -1,4 +1,3 @@
-use Rattle.std.proofs.Common.{rules}
 use Rattle.typed.specs.Rosters.{progress_with}
 use Rattle.typed.proofs.roster.Progress.grown.Goals as goal
 

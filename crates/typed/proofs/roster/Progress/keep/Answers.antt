@@ -1,4 +1,4 @@
-use Rattle.std.proofs.Common.{le-ltb, lt-ltb, refl, rules}
+use Rattle.std.proofs.Common.{le-ltb, lt-ltb, refl}
 use Rattle.typed.specs.Rosters.{bytes_with, kept_with}
 use Rattle.typed.proofs.roster.Progress.keep.Goals as goal
 

@@ -1,4 +1,4 @@
-use Rattle.std.proofs.Common.{rules, sym, ◌∙◌}
+use Rattle.std.proofs.Common.{sym, ◌∙◌}
 use Rattle.typed.specs.Rosters.{closed, grown_if, with_if}
 use Rattle.typed.proofs.roster.Progress.with.Goals as goal
 

@@ -1,4 +1,3 @@
-use Rattle.std.proofs.Common.{rules}
 use Rattle.typed.specs.Rosters.{closed}
 use Rattle.typed.proofs.roster.Roster.closed.Goals as goal
 

@@ -1,4 +1,4 @@
-use Rattle.std.proofs.Common.{arith, length, rules, ⊎_elim, ◌-◌, ◌<◌, ◌≡◌}
+use Rattle.std.proofs.Common.{arith, length, rules, ◌<◌, ◌≡◌}
 use Rattle.typed.specs.Rosters.{entities_in}
 use Rattle.typed.proofs.Steps.{put_none, put_turn, skip_turn, put_end}
 use Rattle.typed.proofs.roster.Roster.entities.Goals as goal

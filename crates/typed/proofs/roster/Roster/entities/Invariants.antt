@@ -1,4 +1,4 @@
-use Rattle.std.proofs.Common.{◌-◌, ◌<◌, ◌≡◌}
+use Rattle.std.proofs.Common.{◌-◌}
 use Rattle.typed.proofs.Steps.{Put}
 use Rattle.typed.proofs.roster.Roster.entities.Given as goal
 

@@ -1,4 +1,4 @@
-use Rattle.std.proofs.Common.{arith, refl, rules, ◌-◌}
+use Rattle.std.proofs.Common.{arith, refl}
 use Rattle.typed.specs.Rosters.{roster_of, read_on}
 use Rattle.typed.proofs.Steps.{pass_turn, pass_end}
 use Rattle.typed.proofs.roster.Roster.read.Goals as goal

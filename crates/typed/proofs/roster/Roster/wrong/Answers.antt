@@ -1,4 +1,3 @@
-use Rattle.std.proofs.Common.{rules}
 use Rattle.typed.specs.Rosters.{wrong_in}
 use Rattle.typed.proofs.roster.Roster.wrong.Goals as goal
 

@@ -1,4 +1,3 @@
-use Rattle.std.proofs.Common.{rules}
 use Rattle.typed.specs.Texts.{text_begun}
 use Rattle.typed.proofs.roster.Text.begun.Goals as goal
 

@@ -1,4 +1,3 @@
-use Rattle.std.proofs.Common.{rules}
 use Rattle.typed.specs.Texts.{text_on}
 use Rattle.typed.proofs.roster.Text.read.Goals as goal
 
