@@ -113,7 +113,6 @@ class Jobs(Case):
         self.refused(Fault.CURRENCY, 0, DOLLARS.read, L)
         self.refused(Fault.ROSTER, 3, replace(OPENING, entities=[401, 402]).read, L)
         self.refused(Fault.AMOUNT, 2, OPENING.read, ZERO_AMOUNT)
-        self.refused(Fault.ACCOUNT, 3, OPENING.read, sample("mistyped-account.txt"))
 
     def test_day(self):
         day = OPENING.day([ZERO_AMOUNT, L, L, identified(b"B"), b""])

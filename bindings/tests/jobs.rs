@@ -103,8 +103,6 @@ fn listings() {
     assert_eq!(desk::listing(L), LISTING.as_bytes());
     let zero_amount = include_bytes!("../../samples/zero-amount.txt");
     assert_eq!(desk::listing(zero_amount), b"REFUSED 19 AT 2\n");
-    let mistyped = include_bytes!("../../samples/mistyped-account.txt");
-    assert_eq!(desk::listing(mistyped), b"REFUSED 78 AT 3\n");
 }
 
 #[test]

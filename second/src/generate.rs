@@ -1,7 +1,5 @@
 //! Good and damaged files, and what else the jobs are done on, each made from a seed and its number alone.
 
-pub mod account_files;
-pub mod accounts;
 pub mod addressed;
 mod asked;
 pub mod built;

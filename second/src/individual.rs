@@ -1,6 +1,5 @@
 //! Types 6 and 7: the individual record and its additional.
 
-use crate::account::is_account;
 use crate::counters::Counters;
 use crate::fields::{all_blank, all_digits, entity, field, number};
 use crate::reader::Reader;
@@ -59,7 +58,7 @@ impl<'a> Individual<'a> {
         let destination = entity(field(record, 4, 11)).ok_or(FORMAT)?;
         reader.admit_destination(destination, field(record, 4, 11))?;
         require(record[11] == b'0', RESERVED)?;
-        require(is_account(field(record, 13, 29)), ACCOUNT)?;
+        require(all_digits(field(record, 13, 29)), ACCOUNT)?;
         let amount = number(field(record, 30, 39))
             .filter(|&amount| amount > 0)
             .ok_or(AMOUNT)?;

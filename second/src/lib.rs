@@ -1,8 +1,7 @@
 //! An independent second program for document 01: reading, opening, presenting, extracting, building, stripping and the listing; with
-//! what document 02 adds: receiving and showing reasons (ticket 1), counters per batch (ticket 3), the company's file (ticket 4),
-//! the account's digit (ticket 5). Beside it, the reading once more, tuned for speed.
+//! what document 02 adds: receiving and showing reasons (ticket 1), counters per batch (ticket 3), the company's file (ticket 4). Beside it,
+//! the reading once more, tuned for speed.
 
-pub mod account;
 pub mod building;
 pub mod company;
 pub mod controls;

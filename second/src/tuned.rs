@@ -1,6 +1,5 @@
 //! The reading once more, tuned for speed: the answers of `reading`, by a loop, a character test and a parsing of its own.
 
-mod account;
 mod batch;
 mod characters;
 mod controls;

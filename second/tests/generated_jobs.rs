@@ -1,14 +1,14 @@
 //! Generated extractions, buildings, strippings, receivings, reasons and company files: what was meant, and both ways there and back.
 
 use second::generate::built::is_as_built;
-use second::generate::company::{first_bad_account, generate_company, header_body};
+use second::generate::company::{generate_company, header_body};
 use second::generate::extract::generate_extract;
 use second::generate::lending::{Input, Lending};
 use second::generate::receive::generate_received;
 use second::generate::show::generate_shown;
 use second::generate::strip::generate_strip;
 use second::generate::tray::generate_tray;
-use second::{build, receive, strip, Refusal, Written};
+use second::{build, receive, strip, Written};
 use std::cell::Cell;
 
 const CASES: u64 = 12_000;
@@ -111,10 +111,10 @@ fn trays_of_companies_are_those_meant() {
     assert!(unknown.get() < CASES / 10);
 }
 
-/// An LO body that reads makes a tray that builds, up to 10,000 records, and comes back; the first bad account stops it.
+/// An LO body that reads makes a tray that builds, up to 10,000 records, and comes back.
 #[test]
 fn trays_of_companies_build() {
-    let (mut built, mut stopped) = (0, 0);
+    let mut built = 0;
     for number in 0..CASES {
         let case = generate_company(3, number);
         let left = case.run();
@@ -124,12 +124,7 @@ fn trays_of_companies_build() {
         let answer = build(&case.rules, &header_body(&case.rules), tray, &mut file);
         let orders = length / 96 - 1;
         if case.input.lo_reads && (1..=9_996).contains(&orders) {
-            let expected = match first_bad_account(tray) {
-                Some(place) => Err(Refusal { number: 78, place }),
-                None => Ok(94 * (orders + 4)),
-            };
-            assert_eq!(answer, expected, "company {number}");
-            stopped += u32::from(expected.is_err());
+            assert_eq!(answer, Ok(94 * (orders + 4)), "company {number}");
         }
         let Ok(length) = answer else { continue };
         let mut back = vec![b'#'; tray.len()];
@@ -140,7 +135,7 @@ fn trays_of_companies_build() {
         assert!(back == tray, "company {number}");
         built += 1;
     }
-    assert!(built > 1_000 && stopped > 150, "{built} {stopped}");
+    assert!(built > 1_000, "{built}");
 }
 
 /// The file comes back exactly when it is numbered so and blank in its free control positions.

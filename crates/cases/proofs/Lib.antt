@@ -2,4 +2,3 @@ pub mod Ends
 pub mod Succession
 pub mod Printed
 pub mod Received
-pub mod CheckDigits

@@ -107,8 +107,8 @@ ends =
     case 28 (reads (today Pesos) (put 2 94 "0" returned) (refused 27 2)) ∷
     case 28 (reads (today Pesos) (put 2 88 "1000001" returned) (refused 25 3)) ∷
     case 28 (reads (today Pesos) (put 2 30 "1000012500" (put 4 21 "001000012500" (put 5 32 "001000012500" returned))) accepted) ∷
-    case 28 (reads (today Pesos) (put 2 13 "1" returned) (refused 78 2)) ∷
-    case 28 (reads (today Pesos) (put 2 29 "1" returned) (refused 78 2)) ∷
+    case 28 (reads (today Pesos) (put 2 13 "1" returned) accepted) ∷
+    case 28 (reads (today Pesos) (put 2 29 "1" returned) accepted) ∷
     case 28 (reads (today Pesos) (put 2 40 "X              " returned) accepted) ∷
     case 28 (reads (today Pesos) (put 2 40 "              X" returned) accepted) ∷
     case 28 (reads (today Pesos) (put 2 55 "X                     " returned) accepted) ∷

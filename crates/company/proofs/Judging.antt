@@ -1,19 +1,17 @@
--- What the reading can say of an order: nothing but of the roster, of its account's check digit and of its counter.
+-- What the reading can say of an order: nothing but of the roster and of its counter.
 use Prim.Native.Nat.{ℕ, ◌+◌, ◌<◌}
 use native.Mathlib.Omega.{arith}
 use mathlib.Core.Bool.{Bool, true, false, not}
-use mathlib.Core.List.{List, ◌++◌}
-use mathlib.Core.Path.{◌≡◌, refl, sym, ap, ◌∙◌}
+use mathlib.Core.List.{List}
+use mathlib.Core.Path.{◌≡◌, refl}
 use lib.Dec.{T, leb, ltb, leb→le}
 use lib.ListN.{length, get_or, take, drop}
-use lib.Seq.{take_at, drop_at}
 use borrow.Author.Tests.{not-true}
 use Rattle.paper.specs.declared.rules.Rules.{Rules}
 use Rattle.paper.specs.declared.record.Code.TheVariants.{Order}
 use Rattle.paper.specs.Answers.{accepted}
 use Rattle.paper.specs.Checks.{Check, fine, need, ◌also◌}
 use Rattle.paper.specs.Fields.{bytes, field, every, good, among, digit, digits, blank, same, number}
-use Rattle.paper.specs.Accounts.{block_good}
 use Rattle.paper.specs.Entities.{currency_adds, entity_field, of_currency, on_roster}
 use Rattle.paper.specs.Kinds.{code_of}
 use Rattle.paper.specs.Records.{in_house, amount_of, account_good, information_good, flag_good, counter_good, addressed, destination, transfer, individual}
@@ -23,7 +21,6 @@ use Rattle.paper.proofs.Normal.{field_front}
 use Rattle.paper.proofs.Every.{every_both, every_take, every_other}
 use Rattle.paper.proofs.Characters.{digit_good, good_spelled}
 use Rattle.paper.proofs.Pieces.{every_joined}
-use Rattle.characters.proofs.Part.{part_length, parted_before}
 use Rattle.tray.specs.Trays.{body_at}
 use Rattle.company.specs.Details.{payer_entity, block2_in, reference_in, client_in, cents_in, text_good, detail, order_of}
 use Rattle.company.specs.Files.{details_of, company_answer, company_tray}
@@ -35,12 +32,11 @@ use Rattle.company.proofs.Exactly.{company_exactly}
 use Rattle.company.proofs.Trays.{order_at}
 
 -- rules that hold say nothing
-passed_over : (b a : Bool) (x y : Check)
-    → (need b 204 also fine also need a 78 also fine also fine also fine also fine also fine also fine also x also y) ≡ (need b 204 also need a 78 also x also y)
+passed_over : (b : Bool) (x y : Check)
+    → (need b 204 also fine also fine also fine also fine also fine also fine also fine also fine also x also y) ≡ (need b 204 also x also y)
 unfolding need ◌also◌
-passed_over true true x y = refl
-passed_over true false x y = refl
-passed_over false a x y = refl
+passed_over true x y = refl
+passed_over false x y = refl
 
 module _ (rules : Rules) (lo r : List ℕ) (lo-long : length lo ≡ 94) (long : length r ≡ 250) (h : detail rules.currency lo r ≡ fine) (m : ℕ) where
   abbrev plain : List ℕ
@@ -65,17 +61,6 @@ module _ (rules : Rules) (lo r : List ℕ) (lo-long : length lo ≡ 94) (long : 
   unfolding code_of
   code = rw (kept 1 2 tt) holds.code
 
-  -- the three zeros are those of every order, and the rest is the detail's block
-  account : account_good order ≡ block_good (block2_in r)
-  unfolding account_good same
-  account =
-      let parts : field plain 13 15 ++ field plain 16 29 ≡ bytes "000" ++ block2_in r =
-      sym (parted_before plain 13 15 16 29 (omega arith) (omega arith) (omega arith) refl) ∙ holds.account in
-      let three : length (field plain 13 15) ≡ 3 = part_length plain 13 15 (omega (arith, holds.long)) in
-      let zeros : field plain 13 15 ≡ bytes "000" = sym (take_at (field plain 13 15) (field plain 16 29) 3 three) ∙ ap (take 3) parts in
-      let block : field plain 16 29 ≡ block2_in r = sym (drop_at (field plain 13 15) (field plain 16 29) 3 three) ∙ ap (drop 3) parts in
-      rw (kept 12 3 tt, zeros, kept 15 14 tt, block)
-
   digits-good : (f : List ℕ) → T (digits f) → T (every good f)
   digits-good f t = every_other digit good digit_good f t
 
@@ -87,13 +72,12 @@ module _ (rules : Rules) (lo r : List ℕ) (lo-long : length lo ≡ 94) (long : 
   unfolding text_good
   some-text f t = not-true (blank f) (of_T (not (blank f)) (and_r (every good f) (not (blank f)) t))
 
-  -- of an order made of a detail that nothing is wrong with, all that the reading of a session of its currency can say is 204 for the payer's entity, 78 for
-  -- the check digit of block 2, which no rule of a company's file names, and what it says of the counter, which building and the LO body made
-  -- (not so with a reference left blank, "100" before block 2, "01" in 77-78, or an amount of zero)
+  -- of an order made of a detail that nothing is wrong with, all that the reading of a session of its currency can say is 204 for the payer's entity, and
+  -- what it says of the counter, which building and the LO body made
+  -- (not so with a reference left blank, letters in an account, "01" in 77-78, or an amount of zero)
   pub order_judged : (header : List ℕ) (previous : ℕ) → individual (in_house rules) header previous order
-      ≡ (need (get_or rules.roster (payer_entity r) false) 204 also need (block_good (block2_in r)) 78 also need (digits (field order 80 94)) 17
-      also need (counter_good header previous order) 27)
-  unfolding individual transfer destination addressed information_good flag_good on_roster amount_of same need ◌also◌
+      ≡ (need (get_or rules.roster (payer_entity r) false) 204 also need (digits (field order 80 94)) 17 also need (counter_good header previous order) 27)
+  unfolding individual transfer destination addressed account_good information_good flag_good on_roster amount_of same need ◌also◌
   order_judged header previous =
       rw (
         code,
@@ -103,7 +87,8 @@ module _ (rules : Rules) (lo r : List ℕ) (lo-long : length lo ≡ 94) (long : 
         holds.payer,
         kept 11 1 tt,
         holds.reserved,
-        account,
+        kept 12 17 tt,
+        of_T (digits (field plain 13 29)) holds.account_digits,
         kept 29 10 tt,
         holds.cents,
         of_T (digits (cents_in r)) asked.cents,
@@ -119,7 +104,7 @@ module _ (rules : Rules) (lo r : List ℕ) (lo-long : length lo ≡ 94) (long : 
         kept 78 1 tt,
         holds.flag,
       )
-      (passed_over (get_or rules.roster (payer_entity r) false) (block_good (block2_in r)) (need (digits (field order 80 94)) 17) (need (counter_good header previous order) 27))
+      (passed_over (get_or rules.roster (payer_entity r) false) (need (digits (field order 80 94)) 17) (need (counter_good header previous order) 27))
 
   -- its bytes are characters of 01 where those that the LO body gave it are
   -- (not so with a client's name in lower case taken as it is)
@@ -142,8 +127,7 @@ pub tray_judged : (rules : Rules) (lo file : List ℕ) → company_answer rules.
     → (header : List ℕ) (previous m : ℕ)
     → let o = numbered m (body_at (company_tray rules.currency lo file) (k + 1)) in
     individual (in_house rules) header previous o
-    ≡ (need (get_or rules.roster (payer_entity (company_record_at file k)) false) 204 also need (block_good (block2_in (company_record_at file k))) 78
-    also need (digits (field o 80 94)) 17 also need (counter_good header previous o) 27)
+    ≡ (need (get_or rules.roster (payer_entity (company_record_at file k)) false) 204 also need (digits (field o 80 94)) 17 also need (counter_good header previous o) 27)
 tray_judged rules lo file h k b header previous m =
     let good = (company_exactly rules.currency lo file).0 h in
     let r : List ℕ = company_record_at file k in

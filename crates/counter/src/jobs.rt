@@ -5,7 +5,7 @@ ghost use Rattle.handing.specs.Handed.{AllOf};
 ghost use Rattle.counter.specs.InBuffer.{InBuffer};
 
 use crate::world::World;
-use crate::{member, say, share};
+use crate::{member, say, share, world};
 use desk::{Reply, Session};
 use files::ending::Ended;
 use files::taking::Filled;
@@ -124,7 +124,7 @@ fn both(before: Ended, now: Ended) -> Ended {
 fn present(rt: &impl World, session: Session) -> Ended
     requires { Reachable session }
 {
-    let count = args::count(rt);
+    let count = world::words(rt);
     let mut after = session;
     let mut ended = Ended::Accepted;
     let mut word = Word::FIRST;

@@ -31,7 +31,7 @@ fn called(rt: &impl World) -> Asked {
     let span = args::word(rt, Word::COMPANY_CURRENCY, &mut next);
     let mut currency = io::buffer();
     let width = args::word(rt, Word::CURRENCY, &mut currency);
-    let count = args::count(rt);
+    let count = world::words(rt);
     call::asked_for(&job[..length], &next[..span], &currency[..width], count)
 }
 

@@ -1,6 +1,5 @@
 pub mod Once
 pub mod Openings
-pub mod MistypedAccounts
 pub mod Cells
 pub mod Newness
 pub mod Lent

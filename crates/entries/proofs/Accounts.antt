@@ -8,8 +8,7 @@ use lib.Dec.{T}
 use lib.ListN.{length, get_or, take, drop}
 use lib.Seq.{drop_at}
 use Rattle.paper.specs.Fields.{field, bytes, every, digit, digits, is}
-use Rattle.paper.specs.Accounts.{block_good}
-use Rattle.paper.specs.Records.{account_good}
+use Rattle.paper.specs.Accounts.{block_good, account_checked}
 use Rattle.paper.proofs.Tests.{not_both, and_l, and_r, T_of, of_T, same→eq}
 use Rattle.paper.proofs.Digits.{every_r}
 use Rattle.paper.proofs.Every.{every_both}
@@ -47,20 +46,20 @@ module _ (r : List ℕ) where
   pub block_digits : T (digits (field r 14 29)) → T (digits (field r 16 29))
   block_digits t = every_r digit (field r 14 15) (field r 16 29) (rw (parted_before r 14 15 16 29 (omega arith) (omega arith) (omega arith) refl) at t)
 
-  pub no_account : digits (field r 14 29) ≡ false → false ≡ account_good r
-  unfolding account_good every digit
-  no_account h = go (account_good r) refl
+  pub no_account : digits (field r 14 29) ≡ false → false ≡ account_checked r
+  unfolding account_checked every digit
+  no_account h = go (account_checked r) refl
     where
-      zeros : T (account_good r) → T (digits (field r 14 15))
+      zeros : T (account_checked r) → T (digits (field r 14 15))
       zeros t =
           let read = same→eq (field r 13 15) (bytes "000") (and_l (is (field r 13 15) "000") (block_good (field r 16 29)) t) in
           let three : T (digits (field r 13 15)) = rw read tt in
           every_r digit (field r 13 13) (field r 14 15) (rw (parted_before r 13 13 14 15 (omega arith) (omega arith) (omega arith) refl) at three)
 
-      behind : T (account_good r) → T (digits (field r 16 29))
+      behind : T (account_checked r) → T (digits (field r 16 29))
       behind t = block_is_digits (field r 16 29) (and_r (is (field r 13 15) "000") (block_good (field r 16 29)) t)
 
-      go : (b : Bool) → account_good r ≡ b → false ≡ b
+      go : (b : Bool) → account_checked r ≡ b → false ≡ b
       go false e = refl
       go true e =
           let all = every_both digit (field r 14 15) (field r 16 29) (zeros (T_of e)) (behind (T_of e)) in

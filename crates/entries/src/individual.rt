@@ -1,5 +1,6 @@
 // 6, individual.
 ghost use Rattle.std.specs.Prelude.{◌≡◌, true, List, ℕ, ◌<◌, length};
+ghost use Rattle.paper.specs.Accounts.{account_checked};
 ghost use Rattle.paper.specs.Entities.{entity_value, entity};
 ghost use Rattle.paper.specs.Fields.{digits};
 ghost use Rattle.paper.specs.Records.{amount_of, destination_field, account_good, information_good, flag_good, addressed, destination, transfer, individual};
@@ -53,10 +54,18 @@ enum Moved {
 // One past the largest number of four digits.
 const FOUR_DIGITS: u64 = 10000;
 
-// Sixteen digits are one step for the machine, so that two of the three zeros are asked twice. The front word serves the zeros and the block.
 pub fn account_good(rec: &[u8]) -> bool
     requires { length rec.now ≡ 94 }
     ensures { result ≡ account_good rec.now }
+{
+    number::digits(rec, 13, 29)
+}
+
+// The same with its check digit; the reading does not ask it yet. Sixteen digits are one step for the machine, so that two of the three zeros are asked twice.
+// The front word serves the zeros and the block.
+pub fn account_checked(rec: &[u8]) -> bool
+    requires { length rec.now ≡ 94 }
+    ensures { result ≡ account_checked rec.now }
 {
     if !number::digits(rec, 14, 29) {
         return false;

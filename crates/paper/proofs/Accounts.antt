@@ -9,8 +9,7 @@ use lib.Dec.{T, eqb, leb}
 use lib.ListN.{length, take, drop, get_or, set, length-take, length-drop, length-set}
 use lib.Seq.{drop-cons, get_or-set_same, set-get_or, take-set-lt, drop-set-add, take_at, drop_at}
 use Rattle.paper.specs.Fields.{field, among, every, digit, digits, value_from, value, is, bytes}
-use Rattle.paper.specs.Accounts.{weights, weighted, block_good}
-use Rattle.paper.specs.Records.{account_good}
+use Rattle.paper.specs.Accounts.{weights, weighted, block_good, account_checked}
 use Rattle.paper.proofs.Tests.{not_both, and_l, and_r, or_go, T_of, of_T, same→eq}
 use Rattle.paper.proofs.Digits.{digit_range, every_append}
 use Rattle.paper.proofs.Every.{every_at}
@@ -111,10 +110,10 @@ module _ (r : List ℕ) (t : T (is (field r 13 15) "000" && block_good (field r 
 
 -- whatever then stands at one position of 13 to 29, if it is not what stood there a good account is bad
 -- (not so if a weight were 5, or if 13-15 were not asked)
-pub one_changed : (r : List ℕ) (p d : ℕ) → length r ≡ 94 → 13 ≤ p → p ≤ 29 → (get_or r (p - 1) 0 ≡ d → ⊥) → account_good r ≡ true
-    → account_good (set r (p - 1) d) ≡ false
-unfolding account_good
-one_changed r p d l low high other h = go (account_good s) refl
+pub one_changed : (r : List ℕ) (p d : ℕ) → length r ≡ 94 → 13 ≤ p → p ≤ 29 → (get_or r (p - 1) 0 ≡ d → ⊥) → account_checked r ≡ true
+    → account_checked (set r (p - 1) d) ≡ false
+unfolding account_checked
+one_changed r p d l low high other h = go (account_checked s) refl
   where
     s : List ℕ
     s = set r (p - 1) d
@@ -130,7 +129,7 @@ one_changed r p d l low high other h = go (account_good s) refl
         let e : p - 1 ≡ 15 + (p - 16) = omega arith in
         ap (λ (i : ℕ). take 14 (drop 15 (set r i d))) e ∙ (ap (take 14) (drop-set-add 15 r (p - 16) d) ∙ take-set-lt 14 (drop 15 r) (p - 16) d (omega arith))
 
-    same-there : account_good s ≡ true → (q : Bool) → leb p 15 ≡ q → get_or r (p - 1) 0 ≡ d
+    same-there : account_checked s ≡ true → (q : Bool) → leb p 15 ≡ q → get_or r (p - 1) 0 ≡ d
     same-there e true q =
         let k = leb-true p 15 q in
         let alike = ap (λ (g : List ℕ). get_or g (p - 13) 0) (zeros-before r (T_of h) ∙ sym (zeros-before s (T_of e))) in
@@ -142,7 +141,7 @@ one_changed r p d l low high other h = go (account_good s) refl
         let after = ap block_good (sym (changed (omega arith))) ∙ block-behind s (T_of e) in
         sym (field_at r 16 29 p (omega arith) (omega arith) high) ∙ only_one f long (p - 16) (omega arith) (get_or f (p - 16) 0) d before after
 
-    go : (b : Bool) → account_good s ≡ b → b ≡ false
+    go : (b : Bool) → account_checked s ≡ b → b ≡ false
     go false e = refl
     go true e = absurd (other (same-there e (leb p 15) refl))
 

@@ -42,4 +42,3 @@ pub mod BuiltNumbers
 pub mod Pieces
 pub mod Characters
 pub mod Accounts
-pub mod Mistyped

@@ -8,7 +8,6 @@ use Rattle.paper.specs.Checks.{Check, need, ◌also◌}
 use Rattle.paper.specs.Fields.{field, digits, blank, identifier_field, same, is, number, spells}
 use Rattle.paper.specs.Dates.{date_field, time_field}
 use Rattle.paper.specs.Entities.{entity_field, of_currency, entity, on_roster}
-use Rattle.paper.specs.Accounts.{block_good}
 use Rattle.paper.specs.Kinds.{code_of, known, is_order, takes01, rejects}
 
 -- the reading's rules: the session's date, currency and roster, and who reads
@@ -102,9 +101,9 @@ flagged_in r = is (field r 79 79) "1"
 abbrev pub number_in : List ℕ → ℕ
 number_in r = number (field r 88 94)
 
--- the account: three zeros and block 2
+-- the account
 unfoldable pub account_good : List ℕ → Bool
-account_good r = is (field r 13 15) "000" && block_good (field r 16 29)
+account_good r = digits (field r 13 29)
 
 -- 77-78 is "00", or "01" with 37 or 36 only
 unfoldable pub information_good : List ℕ → Bool

@@ -15,16 +15,6 @@ pub fn accepted(draft: &Draft) -> Answer {
     Some(Ok(draft.records.len()))
 }
 
-/// The earlier of two refusals; not known where both are of one record.
-pub fn earlier_of(one: Answer, other: Answer) -> Answer {
-    let (first, second) = (one?.err()?, other?.err()?);
-    match first.place.cmp(&second.place) {
-        std::cmp::Ordering::Less => one,
-        std::cmp::Ordering::Greater => other,
-        std::cmp::Ordering::Equal => None,
-    }
-}
-
 pub struct Case {
     pub family: &'static str,
     pub rules: Rules,

@@ -14,7 +14,6 @@ mod odd;
 mod orders;
 mod sums;
 
-use super::accounts::is_good;
 use super::draft::put_number;
 use super::entities::field_number;
 use super::lending::{Input, Lending};
@@ -129,15 +128,6 @@ pub fn header_body(rules: &Rules) -> Vec<u8> {
     put_number(&mut header, 15, 18, field_number(rules.currency, 401));
     put_number(&mut header, 24, 29, rules.date);
     header
-}
-
-/// The place in the built file of the first order whose account is bad: header and batch header come before the orders.
-pub fn first_bad_account(tray: &[u8]) -> Option<usize> {
-    let orders = tray.chunks_exact(TRAY_RECORD).skip(1);
-    let mut accounts = orders.map(|order| std::array::from_fn(|index| order[14 + index]));
-    accounts
-        .position(|account| !is_good(&account))
-        .map(|order| 2 + order)
 }
 
 impl Input for Company {

@@ -3,7 +3,7 @@
 mod faults;
 mod pair;
 
-use super::case::{earlier_of, refused, Answer, Case};
+use super::case::{refused, Answer, Case};
 use super::damage::put_fault;
 use super::draft::Draft;
 use super::faults::Kind;
@@ -130,4 +130,14 @@ fn with_another_fault(random: &mut Random, mut draft: Draft) -> Case {
     let other = put_fault(random, &mut draft, &Kind::ALL);
     let expected = earlier_of(one, other);
     Case::of(WITH_ANOTHER, &draft, expected)
+}
+
+/// Not known where both are faults of one record.
+fn earlier_of(one: Answer, other: Answer) -> Answer {
+    let (first, second) = (one?.err()?, other?.err()?);
+    match first.place.cmp(&second.place) {
+        std::cmp::Ordering::Less => one,
+        std::cmp::Ordering::Greater => other,
+        std::cmp::Ordering::Equal => None,
+    }
 }

@@ -1,6 +1,5 @@
 //! Faults of the table, applied to a draft: one, or two for the order of checks.
 
-use super::accounts::bad_account;
 use super::case::{refused, Answer, Case};
 use super::draft::{get_number, put, put_number, Draft, Record};
 use super::entities::{field_number, named_in, relation};
@@ -50,7 +49,7 @@ impl Fault {
 }
 
 /// A good file with at least one batch; the counters of some fall.
-pub fn sound_file(random: &mut Random) -> Draft {
+fn sound_file(random: &mut Random) -> Draft {
     let mut draft = file_with_batches(random);
     renumber_some(random, &mut draft);
     draft
@@ -113,41 +112,12 @@ pub fn two_faults_in_one_record(random: &mut Random) -> Case {
 }
 
 /// In a draft with at least one batch, of these kinds.
-pub fn two_in_one_record(random: &mut Random, draft: Draft, kinds: &[Kind]) -> Case {
+pub fn two_in_one_record(random: &mut Random, mut draft: Draft, kinds: &[Kind]) -> Case {
     let first = any_fault(random, &draft, kinds);
     let rank = random.below(first.kind.checks().len());
     let way = *random.pick(first.kind.checks()[rank].ways);
     let second = Fault { rank, way, ..first };
-    both_in_one_record(random, draft, [first, second], "two faults in one record")
-}
-
-/// A bad account and another fault of its record, half of the time in the field before it or behind it.
-pub fn account_and_another(random: &mut Random, draft: Draft, family: &'static str) -> Case {
-    let checks = Kind::Individual.checks();
-    let rank = checks.iter().position(|check| check.number == 78);
-    let rank = rank.expect("the table has a row for accounts");
-    let account = Fault::somewhere(random, &draft, Kind::Individual, rank);
-    let near = *random.pick(&[rank - 1, rank + 1]);
-    let any = random.below(checks.len());
-    let rank = *random.pick(&[near, any]);
-    let way = *random.pick(checks[rank].ways);
-    let other = Fault {
-        rank,
-        way,
-        ..account
-    };
-    both_in_one_record(random, draft, [account, other], family)
-}
-
-/// Of two faults of one record the one that is checked first is named.
-fn both_in_one_record(
-    random: &mut Random,
-    mut draft: Draft,
-    faults: [Fault; 2],
-    family: &'static str,
-) -> Case {
-    apply_all(random, &mut draft, &faults);
-    let [first, second] = faults;
+    apply_all(random, &mut draft, &[first, second]);
     let earlier = if first.rank < second.rank {
         first
     } else {
@@ -162,7 +132,7 @@ fn both_in_one_record(
     } else {
         earlier.refusal()
     };
-    Case::of(family, &draft, expected)
+    Case::of("two faults in one record", &draft, expected)
 }
 
 pub fn two_faults_in_two_records(random: &mut Random) -> Case {
@@ -239,7 +209,6 @@ fn apply(random: &mut Random, draft: &mut Draft, fault: &Fault) {
             turn_currency(draft, fault.place, from);
         }
         Way::OtherDate | Way::SharedNoDate => change_date(random, draft, fault),
-        Way::BadAccount => put(&mut draft.records[fault.place], from, &bad_account(random)),
         Way::WrongInformation | Way::FlagMissing => entangle(random, draft, fault),
         Way::CounterEqual | Way::CounterFalling | Way::CounterRepeated | Way::CounterZero => {
             turn_back_counter(random, draft, fault)

@@ -125,8 +125,6 @@ pub enum Way {
     OtherDate,
     /// No date at all, and the session holds the same number.
     SharedNoDate,
-    /// Another account, one that is bad in any way.
-    BadAccount,
     /// "01" with 32 or 31.
     WrongInformation,
     /// No flag where an additional is due.
@@ -186,9 +184,6 @@ const NO_CODE: Way = Texts(&[
     b"33", b"38", b"35", b"30", b"34", b"39", b"22", b"27", b"47", b"00", b"  ", b"3 ", b" 7",
     b"73", b"A7", b"3A", b"13", b"76", b"02",
 ]);
-const NO_ACCOUNT: &[Way] = &[
-    NotDigit, OneBlank, Blanks, BadAccount, BadAccount, BadAccount,
-];
 const NO_AMOUNT: Way = Texts(&[b"0000000000", b"         1", b"1         ", b"000000000 "]);
 const NO_INFORMATION: Way = Texts(&[
     b"02", b"10", b"11", b"  ", b"0 ", b" 0", b" 1", b"99", b"1 ", b"0A", b"A0", b"09",
@@ -251,7 +246,7 @@ const INDIVIDUAL: &[Check] = &[
     check(203, 4, 11, &[OtherCurrency, OtherAbsent]),
     check(204, 4, 11, &[Absent]),
     check(77, 12, 12, &[Other, OneBlank]),
-    check(78, 13, 29, NO_ACCOUNT),
+    check(78, 13, 29, NO_DIGITS),
     check(19, 30, 39, &[NotDigit, OneBlank, Blanks, NO_AMOUNT]),
     check(79, 40, 54, &[Blanks]),
     check(17, 55, 76, &[Blanks]),
@@ -347,7 +342,7 @@ const HANDED_INDIVIDUAL: &[Check] = &[
     check(203, 4, 11, &[OtherCurrency, OtherForeign, OtherAbsent]),
     check(17, 4, 11, &[Foreign, Foreign, Absent]),
     check(77, 12, 12, &[Other, OneBlank]),
-    check(78, 13, 29, NO_ACCOUNT),
+    check(78, 13, 29, NO_DIGITS),
     check(19, 30, 39, &[NotDigit, OneBlank, Blanks, NO_AMOUNT]),
     check(79, 40, 54, &[Blanks]),
     check(17, 55, 76, &[Blanks]),

@@ -1,6 +1,5 @@
 //! Files for the reading: all families in turn.
 
-use super::account_files::account_file;
 use super::case::Case;
 use super::counters::counter_file;
 use super::good::any_file;
@@ -18,8 +17,6 @@ pub fn generate(seed: u64, number: u64) -> Case {
         0 => Case::good("good", &any_file(&mut random)),
         1..=3 => damage::one_fault(&mut random),
         4 | 5 => damage::two_faults_in_one_record(&mut random),
-        // Accounts take their turn here, and the next time at the end.
-        7 if round.is_multiple_of(2) => account_file(&mut random, round as usize),
         6 | 7 => damage::two_faults_in_two_records(&mut random),
         8..=12 => counter_file(&mut random),
         13..=18 => flip(seed, round * 6 + family - 13),
@@ -28,8 +25,7 @@ pub fn generate(seed: u64, number: u64) -> Case {
         22 => lengths::damaged_length(&mut random),
         // Files of more than a hundred records are rare, so that the rest goes quickly.
         _ if random.once_in(10) => sums::amount_sums(&mut random),
-        _ if round.is_multiple_of(2) => damage::one_fault(&mut random),
-        _ => account_file(&mut random, round as usize),
+        _ => damage::one_fault(&mut random),
     }
 }
 

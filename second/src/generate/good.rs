@@ -1,6 +1,5 @@
 //! Good files of all shapes.
 
-use super::accounts::good_account;
 use super::draft::{put, put_number, Draft, Record};
 use super::entities::{any_currency, entity_field, roster_with, some_entities};
 use super::random::Random;
@@ -282,7 +281,7 @@ impl<'r> Maker<'r> {
         };
         put(&mut record, 4, &destination);
         put(&mut record, 12, b"0");
-        put(&mut record, 13, &good_account(self.random));
+        self.put_digits(&mut record, 13, 29);
         let amount = self.amount();
         put_number(&mut record, 30, 39, amount);
         self.put_text(&mut record, 40, 54);

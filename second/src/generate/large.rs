@@ -1,6 +1,5 @@
 //! The few large files: full ones, and control totals beyond ten digits.
 
-use super::accounts::EXAMPLE;
 use super::case::{accepted, refused, Answer, Case};
 use super::counters::scatter_and_repeat;
 use super::draft::{put, put_number, Draft};
@@ -11,7 +10,7 @@ use crate::reading::RECORD;
 use crate::Currency;
 
 /// How many large files a run holds; they come first.
-pub const LARGE: u64 = 37;
+pub const LARGE: u64 = 36;
 
 const FULL: usize = 10_000;
 const FIRST_INDIVIDUAL: usize = 2;
@@ -51,7 +50,6 @@ pub fn large_file(random: &mut Random, number: u64) -> Case {
         25 => totals(random, Currency::Pesos, &[1_500, 1_500], Total::Kept),
         26 => totals(random, Currency::Dollars, &[3_003, 4_004, 1], Total::Kept),
         27 => totals(random, Currency::Dollars, &[9_996], Total::Kept),
-        28 => full(random, last_account_bad),
         _ => large_counters(random, number),
     }
 }
@@ -59,13 +57,13 @@ pub fn large_file(random: &mut Random, number: u64) -> Case {
 /// Those whose counters fall or repeat.
 fn large_counters(random: &mut Random, number: u64) -> Case {
     match number {
-        29 => falling(random, full_draft, |draft| accepted(draft)),
-        30 => falling(random, single_records, |draft| accepted(draft)),
-        31 => falling(random, full_draft, last_counter_back),
-        32 => falling(random, full_draft, |draft| spoil(draft, FULL - 1, 13, b' ')),
-        33 => repeating(random, full_draft, 1),
-        34 => repeating(random, single_records, 1),
-        35 => repeating(random, full_draft, 2),
+        28 => falling(random, full_draft, |draft| accepted(draft)),
+        29 => falling(random, single_records, |draft| accepted(draft)),
+        30 => falling(random, full_draft, last_counter_back),
+        31 => falling(random, full_draft, |draft| spoil(draft, FULL - 1, 13, b' ')),
+        32 => repeating(random, full_draft, 1),
+        33 => repeating(random, single_records, 1),
+        34 => repeating(random, full_draft, 2),
         _ => repeating(random, single_records, 4),
     }
 }
@@ -121,14 +119,6 @@ fn last_amount_zero(draft: &mut Draft) -> Answer {
     let place = last_individual(draft);
     put(&mut draft.records[place], 30, b"0000000000");
     refused(19, place)
-}
-
-/// 003's account with another last digit.
-fn last_account_bad(draft: &mut Draft) -> Answer {
-    let place = last_individual(draft);
-    put(&mut draft.records[place], 13, &EXAMPLE[..16]);
-    put(&mut draft.records[place], 29, b"4");
-    refused(78, place)
 }
 
 /// That of the first individual record, behind both headers.

@@ -71,20 +71,11 @@ pub fn flip(draft: &Draft, at: usize, value: u8) -> Case {
         accepted(draft)
     } else if !CHARACTERS.contains(&value) {
         refused(17, at / RECORD)
-    } else if is_of_account(&file, at) {
-        // No single digit can change without another changing too.
-        refused(78, at / RECORD)
     } else {
         None
     };
     file[at] = value;
     Case::with("byte flipped", draft.rules.clone(), file, expected)
-}
-
-/// Whether this byte is one of 13-29 of an individual record.
-fn is_of_account(file: &[u8], at: usize) -> bool {
-    let position = at % RECORD + 1;
-    file[at - at % RECORD] == b'6' && (13..=29).contains(&position)
 }
 
 /// A good file with records of this kind, and their places.

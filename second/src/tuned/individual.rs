@@ -1,6 +1,5 @@
 //! Types 6 and 7: the individual record and its additional, as they are when good. What is wrong with any other is found elsewhere.
 
-use super::account::is_verified;
 use super::judge::admit;
 use super::picture::Picture;
 use super::words::{bytes, fours, has_text, joined, strays, values, word, Record};
@@ -24,7 +23,7 @@ pub struct Individual {
 }
 
 /// Positions 2-33: code, destination, a zero, account, and the first of the amount.
-const BEGINNING: Picture<32> = Picture::of(b"39999999990000999999999999999999");
+const BEGINNING: Picture<32> = Picture::of(b"39999999990999999999999999999999");
 /// Positions 79-94: flag and counter.
 const END: Picture<16> = Picture::of(b"1999999999999999");
 /// Positions 4-35 of a motive.
@@ -52,8 +51,7 @@ pub fn individual(rules: &Rules, sender: u64, last: u64, record: &Record) -> Opt
         && has_text(record, 55, 76)
         && is_informed(code, record)
         && word(record, 80) == sender
-        && sequence > last
-        && is_verified(record);
+        && sequence > last;
     if !good {
         return None;
     }

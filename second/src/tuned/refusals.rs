@@ -1,6 +1,5 @@
 //! Why an individual record or an additional is refused: its checks in the order printed. Seldom asked, so written for reading.
 
-use super::account::is_verified;
 use super::judge::admit;
 use super::words::{all_digits, bytes, fours, has_text, number, values, word, Record};
 use crate::refusal::{
@@ -25,8 +24,8 @@ fn check_numbers(rules: &Rules, record: &Record) -> Result<(), u16> {
     require(all_digits(record, 4, 11), FORMAT)?;
     admit(rules, fours(values(record, 4, 11)) & 0xffff)?;
     require(record[11] == b'0', RESERVED)?;
-    let account = bytes(record, 13) == b"000" && all_digits(record, 16, 29);
-    require(account && is_verified(record), ACCOUNT)?;
+    let account = all_digits(record, 13, 20) && all_digits(record, 21, 29);
+    require(account, ACCOUNT)?;
     let amount = number(record, 30, 39);
     require(amount.is_some_and(|amount| amount > 0), AMOUNT)
 }

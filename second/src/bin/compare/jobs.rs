@@ -1,6 +1,5 @@
 //! The jobs that both programs do, one after the other.
 
-mod accounts;
 mod companies;
 mod counters;
 mod counting;

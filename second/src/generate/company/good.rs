@@ -3,7 +3,6 @@
 use super::bytes::{put_digits, put_text};
 use super::draft::{printed_due, CompanyDraft, Detail, DETAIL};
 use super::lo::good_lo;
-use crate::generate::accounts::good_block;
 use crate::generate::draft::{put, put_number};
 use crate::generate::entities::any_currency;
 use crate::generate::good::any_date;
@@ -76,17 +75,12 @@ pub fn good_file(random: &mut Random, details: usize) -> CompanyDraft {
         closing_is_bad: false,
         is_unknown: false,
     };
-    // The digit of block 2 is judged where the tray is built: some are wrong, but for the largest files, which are few.
-    let verified = details > 9_000 || !random.once_in(8);
     let (due, largest) = (draft.due(), LARGEST_SUM / details.max(1) as u64);
     draft.details = (0..details)
         .map(|_| {
             let mut detail = detail_form(random, filling);
             put(&mut detail, 26, &due);
             put_named(random, &mut detail, currency);
-            if verified {
-                put(&mut detail, 45, &good_block(random));
-            }
             let amount = any_amount(random, largest);
             put_number(&mut detail, 104, 113, amount);
             detail

@@ -49,10 +49,9 @@ pub fn break_counters(random: &mut Random, draft: &mut Draft) -> Option<usize> {
 
 /// Another fault of the same record comes first, whichever it is: the counter is judged last.
 fn also_spoiled(random: &mut Random, draft: &mut Draft, place: usize) -> u16 {
-    const OTHERS: [(usize, &[u8], u16); 9] = [
+    const OTHERS: [(usize, &[u8], u16); 8] = [
         (2, b"33", 17),
         (12, b"1", 77),
-        (13, b"1", 78),
         (20, b" ", 78),
         (30, b"0000000000", 19),
         (40, b"               ", 79),

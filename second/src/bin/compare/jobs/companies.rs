@@ -4,7 +4,7 @@ use super::details::due_of;
 use super::job::Seen;
 use super::round_trips::company_builds;
 use super::writing::Writing;
-use second::generate::company::{first_bad_account, generate_company, Company, CompanyCase};
+use second::generate::company::{generate_company, Company, CompanyCase};
 use second::{proved, Currency, Written};
 
 impl Writing for Company {
@@ -43,23 +43,9 @@ impl Seen<CompanyCase> {
         self.case.input.file.len()
     }
 
-    /// Whether building must say yes to an accepted tray, or refuse it for nothing but an account.
-    fn is_of_accounts_alone(&self) -> bool {
-        self.case.input.lo_reads && (1..=9_996).contains(&self.details())
-    }
-
-    /// Where the accounts of an accepted tray are first bad.
-    fn bad_account(&self) -> Option<usize> {
-        let length = self.answer.answer.ok()?;
-        first_bad_account(&self.answer.buffer[..length])
-    }
-
+    /// Whether building must say yes to an accepted tray.
     pub fn is_to_build(&self) -> bool {
-        self.is_of_accounts_alone() && self.bad_account().is_none()
-    }
-
-    pub fn is_refused_for_account(&self) -> bool {
-        self.is_of_accounts_alone() && self.bad_account().is_some()
+        self.case.input.lo_reads && (1..=9_996).contains(&self.details())
     }
 
     /// Whether a detail is refused for having the other currency's code.

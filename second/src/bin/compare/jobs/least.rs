@@ -1,7 +1,5 @@
 //! The one table of what a run must reach, and how often at the least: a run that hardly reaches some of this shows little.
 
-use super::accounts::{amount_is_bad, end_is_bad, text_is_bad};
-use super::accounts::{ends_in, is_of_equal_digits, is_of_one_digit, is_of_zeros};
 use super::counters::{begin_again, fall, fall_far_apart, Refused};
 use super::counting::Rows::{self, *};
 use super::details::{due_of, BLOCK_1, BLOCK_2, CLIENT, CURRENCY, DUE, ENTITY, FORMAT, IN_CLIENT, IN_REFERENCE, KIND, REFERENCE};
@@ -11,7 +9,6 @@ use super::form::{bad_tail, bad_type, is_odd, keeps_letter, mixes_kinds, mixes_l
 use super::job::Seen;
 use super::received::{DESK, ORIGIN};
 use second::fields::{all_blank, all_digits, entity, is_character};
-use second::generate::accounts::EXAMPLE;
 use second::generate::company::CompanyCase;
 use second::generate::day::DayCase;
 use second::generate::extract::ExtractCase;
@@ -64,77 +61,6 @@ pub const FILES: &[Rows<Case>] = &[
         ("27 for a first counter of 0 in a later batch", 1_500, |seen| seen.refused_counter(Refused::is_later_zero)),
         ("27 for falling within a batch", 1_200, |seen| seen.refused_counter(Refused::falls)),
         ("27 for 1 behind 9999999 in a batch", 400, |seen| seen.refused_counter(Refused::begins_again)),
-    ]),
-    // Accounts: each kind of damage where it is refused by 78, and what is good.
-    Named(&[
-        ("account: a byte that is no digit", 240),
-        ("account: a neighbour of the digits", 240),
-        ("account: blanks for zeros", 240),
-        ("account: a byte that weighs the same", 240),
-        ("account: a byte with the same low half", 240),
-        ("account: a blank among 13-15", 240),
-        ("account: a digit among 13-15", 240),
-        ("account: one of 13-15 as 9713 goes on", 240),
-        ("account: 13-15 weighed too", 240),
-        ("account: 13-29 weighed from the left", 240),
-        ("account: one digit of 16-28 changed", 240),
-        ("account: another digit in 29", 240),
-        ("account: ten, as the byte behind 9", 240),
-        ("account: ten, as a 1", 240),
-        ("account: weights reversed", 240),
-        ("account: weights from 9", 240),
-        ("account: weights from 1", 240),
-        ("account: weights from 7", 240),
-        ("account: no weights", 240),
-        ("account: weights 3 and 1 alone", 240),
-        ("account: the digits of products", 240),
-        ("account: the remainder", 240),
-        ("account: the digit of 15-27", 240),
-        ("account: the digit of 17-29", 240),
-        ("account: the digit of 17-28", 240),
-        ("account: zeros and one digit", 240),
-        ("account: neighbours swapped", 980), ("neighbours swapped that are five apart", 630), ("several bad accounts", 910),
-        ("bad account and another fault", 900), ("bad account and a fault of another record", 460), ("strange accounts", 1_500),
-    ]),
-    Records(Seen::accepted_individuals, &[
-        ("good accounts that end in 0", 153_000, |record| ends_in(record, b'0')),
-        ("good accounts that end in 1", 38_000, |record| ends_in(record, b'1')),
-        ("good accounts that end in 2", 38_000, |record| ends_in(record, b'2')),
-        ("good accounts that end in 3", 38_000, |record| ends_in(record, b'3')),
-        ("good accounts that end in 4", 38_000, |record| ends_in(record, b'4')),
-        ("good accounts that end in 5", 38_000, |record| ends_in(record, b'5')),
-        ("good accounts that end in 6", 54_000, |record| ends_in(record, b'6')),
-        ("good accounts that end in 7", 38_000, |record| ends_in(record, b'7')),
-        ("good accounts that end in 8", 37_000, |record| ends_in(record, b'8')),
-        ("good accounts that end in 9", 38_000, |record| ends_in(record, b'9')),
-        ("accounts of seventeen zeros", 102_000, is_of_zeros),
-        ("good accounts with a remainder of 0", 50_000, |record| ends_in(record, b'0') && !is_of_zeros(record)),
-        ("good accounts of thirteen equal digits", 14_000, is_of_equal_digits),
-        ("good accounts of one digit among zeros", 15_000, is_of_one_digit),
-        ("003's own account", 15_000, |record| record[12..29] == *EXAMPLE),
-    ]),
-    Cases(|seen| seen.is_beside_bad_account(78), &[
-        ("78 with 37", 10_000, |seen| seen.has_bad_account_of(b"37")),
-        ("78 with 36", 2_500, |seen| seen.has_bad_account_of(b"36")),
-        ("78 with 32", 1_500, |seen| seen.has_bad_account_of(b"32")),
-        ("78 with 31", 1_000, |seen| seen.has_bad_account_of(b"31")),
-        ("78 at the first individual record of several", 4_500, Seen::is_first_account),
-        ("78 at the last individual record of several", 4_500, Seen::is_last_account),
-        ("78 in more than 1080 records", 1, |seen| seen.records() > 1_080),
-        ("78 before 19", 660, |seen| seen.has_bad_account(amount_is_bad)),
-        ("78 before a blank text", 410, |seen| seen.has_bad_account(text_is_bad)),
-        ("78 before what ends the record", 310, |seen| seen.has_bad_account(end_is_bad)),
-    ]),
-    Cases(|_| true, &[
-        ("17 beside a bad account", 2_500, |seen| seen.is_beside_bad_account(17)),
-        ("203 beside a bad account", 180, |seen| seen.is_beside_bad_account(203)),
-        ("204 beside a bad account", 180, |seen| seen.is_beside_bad_account(204)),
-        ("77 beside a bad account", 680, |seen| seen.is_beside_bad_account(77)),
-    ]),
-    Different(&[
-        ("positions of 13-29 and bytes there that are no digits", 399, Seen::stray_in_account),
-        ("positions of 13-15 and digits there, all else good", 13, Seen::digit_before),
-        ("right and wrong last digits", 45, Seen::wrong_digit),
     ]),
     Largest("bytes of the largest file", |seen| seen.case.file.len() as u64),
 ];
@@ -712,7 +638,6 @@ pub const COMPANIES: &[Rows<CompanyCase>] = &[
     // What both programs have said to building the trays.
     Cases(Seen::accepted, &[
         ("trays that build", 5_900, Seen::is_to_build),
-        ("trays refused for a digit that the company had wrong", 500, Seen::is_refused_for_account),
         ("trays that build to 10000 records", 1, |seen| seen.is_to_build() && seen.details() == 9_996),
         ("trays too long to be built", 7, |seen| seen.details() > 9_996),
     ]),

@@ -4,7 +4,6 @@ use super::counters::{fall_or_repeat, Refused};
 use super::job::{Job, Seen};
 use super::showing::show_and_keep;
 use second::day::Opening;
-use second::generate::account_files::{STRANGE, SWAPPED};
 use second::generate::counters::FAMILIES;
 use second::generate::{generate, Case};
 use second::{proved, read, read_swept, tuned, Refusal};
@@ -44,13 +43,6 @@ impl Job for Case {
             "of the counters' family" => FAMILIES.contains(&seen.case.family),
             "of several batches with falling or repeated counters" => {
                 fall_or_repeat(&seen.case.file)
-            }
-            "neighbours swapped that are five apart" => {
-                seen.case.family == SWAPPED && seen.answer.is_ok()
-            }
-            STRANGE => seen.case.family == STRANGE && seen.answer.is_ok(),
-            _ if name.contains("account") => {
-                seen.case.family == name && is_named(seen.answer, "refused 78")
             }
             _ => is_named(seen.answer, name),
         };

@@ -2,7 +2,7 @@
 
 use second::day::Opening;
 use second::generate::built::{built_length, is_as_built};
-use second::generate::company::{first_bad_account, header_body, CompanyCase};
+use second::generate::company::{header_body, CompanyCase};
 use second::generate::strip::StripCase;
 use second::{build, proved, read, strip, Refusal, Rules, Written};
 
@@ -37,8 +37,7 @@ pub fn strips_to_its_tray(
 /// Most orders of a tray of one LO that builds.
 const MOST_ORDERS: usize = 9_996;
 
-/// A tray made of a company's file is built alike by both, and comes back from the file; where the LO body and all
-/// accounts read, it does build.
+/// A tray made of a company's file is built alike by both, and comes back from the file; where the LO body reads, it does build.
 pub fn company_builds(case: &CompanyCase, tray: &[u8]) -> Result<(), String> {
     let header = header_body(&case.rules);
     let room = vec![JUNK; built_length(tray) + OVER];
@@ -53,10 +52,7 @@ pub fn company_builds(case: &CompanyCase, tray: &[u8]) -> Result<(), String> {
     let expected = match tray.len() / 96 - 1 {
         // A 5, then an 8.
         0 => refused(17, 2),
-        1..=MOST_ORDERS => match first_bad_account(tray) {
-            Some(place) => refused(78, place),
-            None => Ok(length),
-        },
+        1..=MOST_ORDERS => Ok(length),
         _ => refused(201, 0),
     };
     if case.input.lo_reads && ours.answer != expected {
