@@ -15,11 +15,11 @@ use paper::rules::Currency;
 
 pub mod companies;
 pub mod day;
-pub mod extract;
+pub mod extracts;
 mod figures;
 pub mod member;
 mod pairs;
-pub mod tray;
+pub mod trays;
 
 // An answer in the paper's numbers: 0 and the number of records, or the refusal number and its place.
 #[repr(C)]

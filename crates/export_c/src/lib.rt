@@ -79,7 +79,7 @@ pub extern "C" fn shaydhoqel_extract(
         (λ session. delivered_of (extracting session.rules entity file.now out.old))
         ≡ record { spoken = result; lent = out.new } }
 {
-    export::extract::shaydhoqel_extract(date, dollars, entities, entity, file, out)
+    export::extracts::shaydhoqel_extract(date, dollars, entities, entity, file, out)
 }
 
 // A file built in such a session.
@@ -96,7 +96,7 @@ pub extern "C" fn shaydhoqel_build(
         (λ session. delivered_of (building session.rules header.now tray.now out.old))
         ≡ record { spoken = result; lent = out.new } }
 {
-    export::tray::shaydhoqel_build(date, dollars, entities, header, tray, out)
+    export::trays::shaydhoqel_build(date, dollars, entities, header, tray, out)
 }
 
 // The tray of a file, in such a session.
@@ -112,7 +112,7 @@ pub extern "C" fn shaydhoqel_strip(
         (λ session. delivered_of (stripping session.rules file.now out.old))
         ≡ record { spoken = result; lent = out.new } }
 {
-    export::tray::shaydhoqel_strip(date, dollars, entities, file, out)
+    export::trays::shaydhoqel_strip(date, dollars, entities, file, out)
 }
 
 // The tray of a company's file, under this LO body. No session is opened for it.

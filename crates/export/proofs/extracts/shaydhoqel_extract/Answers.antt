@@ -1,6 +1,6 @@
 use Rattle.std.proofs.Common.{◌∙◌}
 use Rattle.export.proofs.Opened.{said_refused, done_there}
-use Rattle.export.proofs.extract.shaydhoqel_extract.Goals as goal
+use Rattle.export.proofs.extracts.shaydhoqel_extract.Goals as goal
 
 pub returns-in-Refused : goal.returns-in-Refused
 returns-in-Refused c =

@@ -1,6 +1,6 @@
 use Rattle.std.proofs.Common.{◌∙◌}
 use Rattle.export.proofs.Opened.{said_refused, done_there}
-use Rattle.export.proofs.tray.shaydhoqel_strip.Goals as goal
+use Rattle.export.proofs.trays.shaydhoqel_build.Goals as goal
 
 pub returns-in-Refused : goal.returns-in-Refused
 returns-in-Refused c =
@@ -9,4 +9,4 @@ returns-in-Refused c =
 pub returns : goal.returns
 returns c =
     done_there _ _ _ _ _ _ c.currency.ensures c.open-opened.ensures.0 c.in_default.is
-    ∙ rw (← c.strip-output.ensures) (c.speak_output.ensures _)
+    ∙ rw (← c.build-output.ensures) (c.speak_output.ensures _)
