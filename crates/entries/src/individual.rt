@@ -98,17 +98,10 @@ fn addressed(reader: Reader, roster: &[bool; Rules::ROSTER], to: u64) -> Verdict
     match reader {
         Reader::House => {
             let e = to as usize;
-            if !roster[e] {
-                return Verdict::Wrong(Fault::Roster);
-            }
+            Verdict::Right.need(roster[e], Fault::Roster)
         }
-        Reader::Desk(desk) => {
-            if to != desk {
-                return Verdict::Wrong(Fault::Format);
-            }
-        }
+        Reader::Desk(desk) => Verdict::Right.need(to == desk, Fault::Format),
     }
-    Verdict::Right
 }
 
 // Of an entity field of digits, by the number of the first four: the currency mostly fits, so that it is asked first.
