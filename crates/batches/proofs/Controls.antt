@@ -12,10 +12,10 @@ use Rattle.paper.proofs.Normal.{field_front, field_numbered}
 use Rattle.batches.specs.Sums.{sums_of}
 
 sums_on : (a : List ℕ) (t : Tally) → a ++ sums_of t ≡ a ++ spelled 10 t.destinations ++ spelled 12 t.debits ++ spelled 12 t.credits
-sums_on a t = three-on (spelled 10 t.destinations) (spelled 12 t.debits) (spelled 12 t.credits)
+sums_on a t = three_on (spelled 10 t.destinations) (spelled 12 t.debits) (spelled 12 t.credits)
   where
-    three-on : (x y z : List ℕ) → a ++ (x ++ y ++ z) ≡ a ++ x ++ y ++ z
-    three-on x y z = sym (append_assoc a (x ++ y) z) ∙ ap (λ (l : List ℕ). l ++ z) (sym (append_assoc a x y))
+    three_on : (x y z : List ℕ) → a ++ (x ++ y ++ z) ≡ a ++ x ++ y ++ z
+    three_on x y z = sym (append_assoc a (x ++ y) z) ∙ ap (λ (l : List ℕ). l ++ z) (sym (append_assoc a x y))
 
 -- under a header that has got another number, which its other fields do not tell
 numbered_front : (b : ℕ) (h : List ℕ) → length h ≡ 94 → (at n : ℕ) → at + n ≤ 87 → take n (drop at (numbered b h)) ≡ take n (drop at h)

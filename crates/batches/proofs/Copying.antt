@@ -56,13 +56,13 @@ module _ {rs : List (List ℕ)} (sized : Sized 94 rs) {before : List ℕ} {i : �
 
   -- there is one more
   module _ {r : List ℕ} (here : drop i rs ≡ r ∷ drop (i + 1) rs) (h : own_at (drop i rs) ≡ true) where
-    own-step : own_of (drop i rs) ≡ r ∷ own_of (drop (i + 1) rs)
-    own-step = ap own_of here ∙ own_one r (drop (i + 1) rs) (ap own_at (sym here) ∙ h)
+    own_step : own_of (drop i rs) ≡ r ∷ own_of (drop (i + 1) rs)
+    own_step = ap own_of here ∙ own_one r (drop (i + 1) rs) (ap own_at (sym here) ∙ h)
 
     pub room_left : length (own_of rs) * 94 ≤ length before → i * 94 + 94 ≤ length after
     room_left room =
         let n = length-append (take i rs) (own_of (drop i rs)) in
-        let o = ap length own-step in
+        let o = ap length own_step in
         omega (arith, ap length c.own, so_far, kept c.wrote (omega (arith, ap length c.own, so_far)))
 
     one_more : take (i + 1) rs ≡ take i rs ++ r ∷ []
@@ -77,7 +77,7 @@ module _ {rs : List (List ℕ)} (sized : Sized 94 rs) {before : List ℕ} {i : �
         let j : joined so ++ r ≡ joined (so ++ r ∷ []) = rw (joined_append so (r ∷ []), append-nil r) refl in
         record {
           inside = omega (arith, length-drop i rs, ap length here);
-          own = c.own ∙ rw (own-step, one_more) (sym (append_snoc so r (own_of (drop (i + 1) rs))));
+          own = c.own ∙ rw (own_step, one_more) (sym (append_snoc so r (own_of (drop (i + 1) rs))));
           tally = e ∙ rw (one_more, c.tally) (sym (tallied_snoc zeros so r));
           wrote = rw (one_more, ← j) (on c.wrote r (omega (arith, l), f ∙ part_laid (i * 94) (i * 94 + 94) r after (omega (arith, l))));
         }

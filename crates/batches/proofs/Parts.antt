@@ -46,27 +46,27 @@ own_wrote before header own copied n h sized room o k =
 
 -- a batch under its number, over the front of a part
 module _ (before : List ℕ) (number : ℕ) (header : List ℕ) (long : length header ≡ 94) {head : List ℕ} (h : head ≡ numbered number header) where
-  head-long : length head ≡ 94
-  head-long = ap length h ∙ length_numbered number header (omega arith)
+  head_long : length head ≡ 94
+  head_long = ap length h ∙ length_numbered number header (omega arith)
 
   -- what is left behind its header
   pub own_room : 94 ≤ length before → length (mid_of 94 (length (head ++ drop 94 before) - 94) (head ++ drop 94 before)) ≡ length before - 94
   own_room l =
-      mid_len 94 (length (head ++ drop 94 before)) (head ++ drop 94 before) (omega (arith, head-long, length-append head (drop 94 before)))
-      ∙ omega (arith, head-long, length-append head (drop 94 before), length-drop 94 before)
+      mid_len 94 (length (head ++ drop 94 before)) (head ++ drop 94 before) (omega (arith, head_long, length-append head (drop 94 before)))
+      ∙ omega (arith, head_long, length-append head (drop 94 before), length-drop 94 before)
 
   module _ {own : List (List ℕ)} (sized : Sized 94 own) (room : (length own + 2) * 94 ≤ length before) {copied : List ℕ} {n : ℕ} {t : Tally}
       (o : Batched own own (mid_of 94 (length (head ++ drop 94 before) - 94) (head ++ drop 94 before)) copied n t) where
     copied_on : List ℕ
     copied_on = put_mid 94 (length (head ++ drop 94 before) - 94) (head ++ drop 94 before) copied
 
-    behind-header : Wrote 0 (head ++ joined own) before copied_on ((n + 1) * 94)
+    behind_header : Wrote 0 (head ++ joined own) before copied_on ((n + 1) * 94)
     unfolding copied_on
-    behind-header = own_wrote before head own copied n head-long sized (omega arith) o.bytes o.count
+    behind_header = own_wrote before head own copied n head_long sized (omega arith) o.bytes o.count
 
     pub control_room : (n + 1) * 94 + 94 ≤ length (put_mid 94 (length (head ++ drop 94 before) - 94) (head ++ drop 94 before) copied)
     unfolding copied_on
-    control_room = omega (arith, kept behind-header (omega (arith, o.count)), o.count)
+    control_room = omega (arith, kept behind_header (omega (arith, o.count)), o.count)
 
     pub batch_laid : {control : List ℕ} → control ≡ batch_control_of (numbered number header) t
         → Batched (block number header own) own before
@@ -76,6 +76,6 @@ module _ (before : List ℕ) (number : ℕ) (header : List ℕ) (long : length h
     unfolding copied_on
     batch_laid {control} c =
         let z = ap length c ∙ length_batch_control (numbered number header) t (length_numbered number header (omega arith)) in
-        let w = on {n = (n + 2) * 94} behind-header control (omega (arith, z), part_laid ((n + 1) * 94) ((n + 1) * 94 + 94) control copied_on (omega (arith, z))) in
+        let w = on {n = (n + 2) * 94} behind_header control (omega (arith, z), part_laid ((n + 1) * 94) ((n + 1) * 94 + 94) control copied_on (omega (arith, z))) in
         let b : head ++ joined own ++ control ≡ joined (block number header own) = rw (h, c, o.tally) (sym (block_bytes number header own)) in
         record { bytes = (whole w).1 ∙ ap (λ (x : List ℕ). over x before) b; count = o.count; tally = o.tally }

@@ -72,21 +72,21 @@ module _ {header tray buffer : List ℕ} (f : ToBuild header tray buffer) where
 
   -- written behind the header
   module _ {head : List ℕ} (e : head ≡ header) where
-    header-wrote : Wrote 0 head buffer (head ++ drop 94 buffer) 94
-    header-wrote = front_wrote buffer head (ap length e ∙ f.long)
+    header_wrote : Wrote 0 head buffer (head ++ drop 94 buffer) 94
+    header_wrote = front_wrote buffer head (ap length e ∙ f.long)
 
-    headed-long : length (head ++ drop 94 buffer) ≡ length buffer
-    headed-long = kept header-wrote (omega (arith, loose_room))
+    headed_long : length (head ++ drop 94 buffer) ≡ length buffer
+    headed_long = kept header_wrote (omega (arith, loose_room))
 
     pub headed_room : 94 ≤ length (head ++ drop 94 buffer)
-    headed_room = omega (arith, headed-long, loose_room)
+    headed_room = omega (arith, headed_long, loose_room)
 
     pub loose_asked : ToNumber tray (10 ^ 10) none (mid_of 94 (length (head ++ drop 94 buffer) - 94) (head ++ drop 94 buffer)) (length (own_of (numbered_from none (bodies tray))))
     loose_asked = record {
       sound = f.sound;
       short = tray_few;
       few = (omega arith, omega arith);
-      room = omega (arith, mid_len 94 (length (head ++ drop 94 buffer)) (head ++ drop 94 buffer) (omega arith), headed-long, loose_room);
+      room = omega (arith, mid_len 94 (length (head ++ drop 94 buffer)) (head ++ drop 94 buffer) (omega arith), headed_long, loose_room);
     }
 
     module _ {part : List ℕ} {r : ℕ} {t : Tally}

@@ -40,12 +40,12 @@ module _ {tray before later : List ℕ} {first n : Numbering} {i : ℕ} {t : Tal
   rs : List (List ℕ)
   rs = numbered_from first (bodies tray)
 
-  whole-bodies : Sized 94 (bodies tray)
-  whole-bodies = bodies_sized tray asked.sound.whole
+  whole_bodies : Sized 94 (bodies tray)
+  whole_bodies = bodies_sized tray asked.sound.whole
 
   sized : Sized 94 rs
   unfolding rs
-  sized = numbering_sized (bodies tray) first.batches first.individuals whole-bodies
+  sized = numbering_sized (bodies tray) first.batches first.individuals whole_bodies
 
   inside : i ≤ length tray / 96
   inside = omega (arith, c.copied.inside, length_numbering first (bodies tray), length_bodies tray)
@@ -68,7 +68,7 @@ module _ {tray before later : List ℕ} {first n : Numbering} {i : ℕ} {t : Tal
   own_same : own_at (drop i rs) ≡ own_at (drop i (bodies tray))
   unfolding rs
   own_same =
-      ap own_at (drop_numbered first (bodies tray) i) ∙ own_numbered (through first (take i (bodies tray))) (drop i (bodies tray)) (sized_drop i (bodies tray) whole-bodies)
+      ap own_at (drop_numbered first (bodies tray) i) ∙ own_numbered (through first (take i (bodies tray))) (drop i (bodies tray)) (sized_drop i (bodies tray) whole_bodies)
 
   -- there is one more
   module _ {own : Bool} (a : own ≡ own_at (drop i (bodies tray))) (h : own ≡ true) where
@@ -83,7 +83,7 @@ module _ {tray before later : List ℕ} {first n : Numbering} {i : ℕ} {t : Tal
 
     long : length r ≡ 94
     unfolding r
-    long = sized_first i (bodies tray) (bodies_at tray i l) whole-bodies
+    long = sized_first i (bodies tray) (bodies_at tray i l) whole_bodies
 
     here : drop i rs ≡ numbered number r ∷ drop (i + 1) rs
     unfolding rs r number

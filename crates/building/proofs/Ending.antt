@@ -33,18 +33,18 @@ module _ {header tray before out : List ℕ} {from at : ℕ} {n : Numbering} {t 
       ∙ append-nil (file_control_of (p.counts.place + 1) p.counts.batches p.counts.closed)
       ∙ (λ i. file_control_of (e i + 1) (p.batches i) (p.closed i))
 
-  last-length : length (joined (remaining p.counts (left tray from n))) ≡ 94
-  last-length = ap length last ∙ length_file_control (at / 94 + 1) n.batches t
+  last_length : length (joined (remaining p.counts (left tray from n))) ≡ 94
+  last_length = ap length last ∙ length_file_control (at / 94 + 1) n.batches t
 
   pub end_room : at + 94 ≤ length out
-  end_room = omega (arith, as_long p, p.wrote.next, length_left p, last-length, behind_length p.fits, p.fits.room)
+  end_room = omega (arith, as_long p, p.wrote.next, length_left p, last_length, behind_length p.fits, p.fits.room)
 
   pub end_few : at / 94 + 1 ≤ 10000
-  end_few = omega (arith, p.wrote.next, length_left p, last-length, behind_length p.fits, p.fits.short)
+  end_few = omega (arith, p.wrote.next, length_left p, last_length, behind_length p.fits, p.fits.short)
 
-  end-done : {buffer control : List ℕ} → Wrote 0 (header ++ joined (loose tray)) buffer before ((length (loose tray) + 1) * 94)
+  end_done : {buffer control : List ℕ} → Wrote 0 (header ++ joined (loose tray)) buffer before ((length (loose tray) + 1) * 94)
       → control ≡ file_control_of (at / 94 + 1) n.batches t → Wrote 0 (build header tray) buffer (put_mid at (at + 94 - at) out control) (at + 94)
-  end-done {buffer} {control} w c =
+  end_done {buffer} {control} w c =
       let z = ap length c ∙ length_file_control (at / 94 + 1) n.batches t in
       let o = on {n = at + 94} p.wrote control (omega (arith, z), part_laid at (at + 94) control out (omega (arith, z))) in
       let e : header ++ joined (loose tray) ++ (p.text ++ control) ≡ build header tray =
@@ -57,7 +57,7 @@ module _ {header tray buffer head part out : List ℕ} {r from at : ℕ} {n : Nu
     (p : Progress header tray (put_mid 94 (length (head ++ drop 94 buffer) - 94) (head ++ drop 94 buffer) part) out from at n t) (l : length tray ≤ from)
     {control : List ℕ} (c : control ≡ file_control_of (at / 94 + 1) n.batches t) where
   built : Wrote 0 (build header tray) buffer (put_mid at (at + 94 - at) out control) (at + 94)
-  built = end-done p l (loose_wrote f h o) c
+  built = end_done p l (loose_wrote f h o) c
 
   pub built_long : length (put_mid at (at + 94 - at) out control) ≡ length buffer
   built_long = kept built (omega (arith, built.next, f.room))

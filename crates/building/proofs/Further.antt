@@ -39,11 +39,11 @@ own tray n = own_of (numbered_from (after BatchHeader n) (drop 1 (bodies tray)))
 
 module _ {header tray before out : List ℕ} {from at : ℕ} {n : Numbering} {t : Tally}
     (p : Progress header tray before out from at n t) (l : from < length tray) where
-  long-left : 96 ≤ length (drop from tray)
-  long-left = rw length-drop (omega (arith, p.even, p.fits.sound.whole))
+  long_left : 96 ≤ length (drop from tray)
+  long_left = rw length-drop (omega (arith, p.even, p.fits.sound.whole))
 
   first : First (drop from tray) n
-  first = first_of (drop from tray) n (sound_left p) long-left p.heads
+  first = first_of (drop from tray) n (sound_left p) long_left p.heads
 
   abbrev tail : List (List ℕ)
   tail = numbered_from (after BatchHeader n) (drop 1 (bodies (drop from tray)))
@@ -51,28 +51,28 @@ module _ {header tray before out : List ℕ} {from at : ℕ} {n : Numbering} {t 
   abbrev batch : List (List ℕ)
   batch = block (n.batches + 1) (body_at (drop from tray) 0) (own_of tail)
 
-  tail-plain : Plain tail
-  tail-plain = plain_numbering (after BatchHeader n).batches (after BatchHeader n).individuals (drop 1 (bodies (drop from tray))) first.plain
+  tail_plain : Plain tail
+  tail_plain = plain_numbering (after BatchHeader n).batches (after BatchHeader n).individuals (drop 1 (bodies (drop from tray))) first.plain
 
-  own-whole : Sized 94 (own_of tail)
-  own-whole = own_sized tail (plain_sized tail tail-plain)
+  own_whole : Sized 94 (own_of tail)
+  own_whole = own_sized tail (plain_sized tail tail_plain)
 
-  batch-length : length (joined batch) ≡ (length (own_of tail) + 2) * 94
-  batch-length = length_block (n.batches + 1) (body_at (drop from tray) 0) (own_of tail) first.long own-whole
+  batch_length : length (joined batch) ≡ (length (own_of tail) + 2) * 94
+  batch_length = length_block (n.batches + 1) (body_at (drop from tray) 0) (own_of tail) first.long own_whole
 
-  closed-now : Closed p.counts (numbered (n.batches + 1) (body_at (drop from tray) 0)) tail
-  closed-now = closes p.counts (numbered (n.batches + 1) (body_at (drop from tray) 0)) tail tail-plain
+  closed_now : Closed p.counts (numbered (n.batches + 1) (body_at (drop from tray) 0)) tail
+  closed_now = closes p.counts (numbered (n.batches + 1) (body_at (drop from tray) 0)) tail tail_plain
 
   -- what comes after it
   abbrev others : List (List ℕ)
-  others = remaining closed-now.counts (drop (length (own_of tail)) tail)
+  others = remaining closed_now.counts (drop (length (own_of tail)) tail)
 
   parts : joined (remaining p.counts (left tray from n)) ≡ joined batch ++ joined others
   unfolding block
-  parts = ap (λ (rs : List (List ℕ)). joined (remaining p.counts rs)) first.all ∙ ap joined closed-now.all ∙ joined_append batch others
+  parts = ap (λ (rs : List (List ℕ)). joined (remaining p.counts rs)) first.all ∙ ap joined closed_now.all ∙ joined_append batch others
 
-  parts-length : length (joined (remaining p.counts (left tray from n))) ≡ (length (own_of tail) + 2) * 94 + length (joined others)
-  parts-length = ap length parts ∙ length-append (joined batch) (joined others) ∙ omega (arith, batch-length)
+  parts_length : length (joined (remaining p.counts (left tray from n))) ≡ (length (own_of tail) + 2) * 94 + length (joined others)
+  parts_length = ap length parts ∙ length-append (joined batch) (joined others) ∙ omega (arith, batch_length)
 
   own_inside : from + (length (own_of tail) + 1) * 96 ≤ length tray
   own_inside =
@@ -80,11 +80,11 @@ module _ {header tray before out : List ℕ} {from at : ℕ} {n : Numbering} {t 
       omega (arith, own_fewer tail, length_records (drop from tray) n, length-drop from tray, p.fits.sound.whole, p.even)
 
   own_below : Below (length (own_of tail) * 10 ^ 10) (tallied zeros (own_of tail))
-  own_below = below_more _ (omega arith) (tallied_below zeros (own_of tail) own-whole (below_zeros 0))
+  own_below = below_more _ (omega arith) (tallied_below zeros (own_of tail) own_whole (below_zeros 0))
 
-  next-left : {r : ℕ} {m : Numbering} → r ≡ length (own_of tail) → m ≡ through n (take (r + 1) (bodies (drop from tray)))
+  next_left : {r : ℕ} {m : Numbering} → r ≡ length (own_of tail) → m ≡ through n (take (r + 1) (bodies (drop from tray)))
       → left tray (from + (r + 1) * 96) m ≡ drop (length (own_of tail)) tail
-  next-left {r} {m} k e =
+  next_left {r} {m} k e =
       rw (← drop-drop ((r + 1) * 96) from tray)
       (left_of (drop from tray) (r + 1) n (omega (arith, own_inside, length-drop from tray)) e ∙ ap (drop (r + 1)) first.all ∙ rw (add-one r, k) refl)
 
@@ -98,9 +98,9 @@ module _ {header tray before out : List ℕ} {from at : ℕ} {n : Numbering} {t 
           sound = sound_left p;
           short = omega (arith, length-drop from tray, tray_few p.fits);
           few = few_left p;
-          room = omega (arith, mid_len at (length out) out (omega arith), as_long p, p.wrote.next, length_left p, parts-length, behind_length p.fits, p.fits.room);
+          room = omega (arith, mid_len at (length out) out (omega arith), as_long p, p.wrote.next, length_left p, parts_length, behind_length p.fits, p.fits.room);
         },
-        (long-left, first.kind),
+        (long_left, first.kind),
       )
 
   module _ {part : List ℕ} {r : ℕ} {u : Tally}
@@ -117,25 +117,25 @@ module _ {header tray before out : List ℕ} {from at : ℕ} {n : Numbering} {t 
     pub batch_done : {m : Numbering} → m ≡ through n (take (r + 1) (bodies (lent tray from)))
         → Progress header tray before (put_mid at (length out - at) out part) (from + (r + 1) * 96) (at + (r + 2) * 94) m (plus t u)
     batch_done {m} e =
-        let d = closed-now in
+        let d = closed_now in
         let k = batched.count in
-        let through-all : m ≡ through n (take (r + 1) (bodies (drop from tray))) = rw (rest_of from tray) at e in
+        let through_all : m ≡ through n (take (r + 1) (bodies (drop from tray))) = rw (rest_of from tray) at e in
         let few = through_grows n (take (r + 1) (bodies (drop from tray))) in
         let z = length-take (r + 1) (bodies (drop from tray)) in
-        let next = next-left k through-all in
+        let next = next_left k through_all in
         record {
           fits = p.fits;
           done = p.done + (r + 1);
           even = omega (arith, p.even);
           inside = omega (arith, k, own_inside);
-          few = rw through-all (omega (arith, few.0, z, p.few.0), omega (arith, few.1, z, p.few.1));
+          few = rw through_all (omega (arith, few.0, z, p.few.0), omega (arith, few.1, z, p.few.1));
           below = rw batched.tally (below_more _ (omega (arith, k)) (below_plus t (tallied zeros (own_of tail)) p.below own_below));
           counts = d.counts;
           place = omega (arith, d.place, p.place, k);
-          batches = d.batches ∙ ap suc p.batches ∙ rw (through-all, k) (sym first.batches);
+          batches = d.batches ∙ ap suc p.batches ∙ rw (through_all, k) (sym first.batches);
           closed = d.closed ∙ rw (batched.tally, p.closed) refl;
           text = p.text ++ joined batch;
-          wrote = on p.wrote (joined batch) (omega (arith, batch-length, k), ap (put_mid at (length out - at) out) batched.bytes ∙ rest_laid at (joined batch) out (start_room p));
+          wrote = on p.wrote (joined batch) (omega (arith, batch_length, k), ap (put_mid at (length out - at) out) batched.bytes ∙ rest_laid at (joined batch) out (start_room p));
           heads = rw next d.heads;
           all = p.all ∙ ap (λ (x : List ℕ). joined (loose tray) ++ p.text ++ x) parts ∙ rw next (simp append_assoc);
         }

@@ -36,8 +36,8 @@ tail_of tray = take (length tray - 96) (drop 96 tray)
 module _ {tray buffer body head : List ℕ} {n r : Numbering} (p : ToNumber tray (10 ^ 9) n buffer (length (own_of (numbered_from (after BatchHeader n) (drop 1 (bodies tray)))) + 2))
     (some : 96 ≤ length tray) (kind : kind_of (body_at tray 0) ≡ BatchHeader) (q : body ≡ body_at tray 0) (long : length body ≡ 94)
     (counted : r ≡ after (kind_of body) n) (wrote : head ≡ numbered (last_number (kind_of body) r) body) where
-  tail-bodies : bodies (take (length tray - 96) (drop 96 tray)) ≡ drop 1 (bodies tray)
-  tail-bodies = ap bodies (rest_of 96 tray) ∙ bodies_rest tray 1 (omega arith)
+  tail_bodies : bodies (take (length tray - 96) (drop 96 tray)) ≡ drop 1 (bodies tray)
+  tail_bodies = ap bodies (rest_of 96 tray) ∙ bodies_rest tray 1 (omega arith)
 
   e : r ≡ after BatchHeader n
   e = rw (q, kind) at counted
@@ -46,8 +46,8 @@ module _ {tray buffer body head : List ℕ} {n r : Numbering} (p : ToNumber tray
   unfolding last_number
   under = rw (ap kind_of q ∙ kind) at wrote
 
-  tail-room : (length (own_of (numbered_from r (bodies (tail_of tray)))) + 2) * 94 ≤ length buffer
-  tail-room = rw (tail-bodies, e) p.room
+  tail_room : (length (own_of (numbered_from r (bodies (tail_of tray)))) + 2) * 94 ≤ length buffer
+  tail_room = rw (tail_bodies, e) p.room
 
   pub tail_asked : ToNumber (take (length tray - 96) (drop 96 tray)) (10 ^ 10) r (mid_of 94 (length (head ++ drop 94 buffer) - 94) (head ++ drop 94 buffer))
       (length (own_of (numbered_from r (bodies (take (length tray - 96) (drop 96 tray))))))
@@ -57,7 +57,7 @@ module _ {tray buffer body head : List ℕ} {n r : Numbering} (p : ToNumber tray
         sound = rw (rest_of 96 tray) (sound_rest tray 1 (omega arith) p.sound);
         short = rw (rest_of 96 tray) (omega (arith, length-drop 96 tray, p.short));
         few = rw e (omega (arith, g.0, p.few), omega (arith, g.1, p.few));
-        room = omega (arith, tail-room, own_room buffer r.batches body long under (omega (arith, p.room)));
+        room = omega (arith, tail_room, own_room buffer r.batches body long under (omega (arith, p.room)));
       }
 
   -- its records behind it
@@ -66,22 +66,22 @@ module _ {tray buffer body head : List ℕ} {n r : Numbering} (p : ToNumber tray
     -- a batch has at most 10,000 records
     pub tail_few : k ≤ 10000
     tail_few =
-        omega (arith, rw tail-bodies at o.count, own_fewer (numbered_from r (drop 1 (bodies tray))), length_numbering r (drop 1 (bodies tray)), length-drop 1 (bodies tray), length_bodies tray, p.short)
+        omega (arith, rw tail_bodies at o.count, own_fewer (numbered_from r (drop 1 (bodies tray))), length_numbering r (drop 1 (bodies tray)), length-drop 1 (bodies tray), length_bodies tray, p.short)
 
     sized : Sized 94 (own_of (numbered_from r (bodies (tail_of tray))))
     sized =
-        rw tail-bodies
+        rw tail_bodies
         (own_sized (numbered_from r (drop 1 (bodies tray))) (numbering_sized (drop 1 (bodies tray)) r.batches r.individuals (sized_drop 1 (bodies tray) (bodies_sized tray p.sound.whole))))
 
     pub control_fits : (k + 1) * 94 + 94 ≤ length (put_mid 94 (length (head ++ drop 94 buffer) - 94) (head ++ drop 94 buffer) copied)
-    control_fits = control_room buffer r.batches body long under sized tail-room o
+    control_fits = control_room buffer r.batches body long under sized tail_room o
 
     pub batch_whole : {control : List ℕ} → control ≡ batch_control_of (numbered r.batches body) t
         → let own = own_of (numbered_from (after BatchHeader n) (drop 1 (bodies tray))) in Batched (block (n.batches + 1) (body_at tray 0) own) own buffer
         (put_mid ((k + 1) * 94) ((k + 1) * 94 + 94 - (k + 1) * 94) (put_mid 94 (length (head ++ drop 94 buffer) - 94) (head ++ drop 94 buffer) copied) control) k t
     batch_whole c =
-        let laid = batch_laid buffer r.batches body long under sized tail-room o c in
-        rw (← header_batches n, ← e, ← q, ← tail-bodies) laid
+        let laid = batch_laid buffer r.batches body long under sized tail_room o c in
+        rw (← header_batches n, ← e, ← q, ← tail_bodies) laid
 
     -- the header is counted first
     pub numbering_whole : {u : Numbering} → u ≡ through r (take k (bodies (take (length tray - 96) (drop 96 tray)))) → u ≡ through n (take (k + 1) (bodies tray))
@@ -89,4 +89,4 @@ module _ {tray buffer body head : List ℕ} {n r : Numbering} (p : ToNumber tray
     numbering_whole v =
         let first : bodies tray ≡ body_at tray 0 ∷ drop 1 (bodies tray) = bodies_at tray 0 (omega arith) in
         let all : take (k + 1) (bodies tray) ≡ body_at tray 0 ∷ take k (drop 1 (bodies tray)) = rw add-one (ap (take (suc k)) first) in
-        rw (e, tail-bodies) at v ∙ sym (ap (through n) all ∙ ap (λ (x : Kind). through (after x n) (take k (drop 1 (bodies tray)))) kind)
+        rw (e, tail_bodies) at v ∙ sym (ap (through n) all ∙ ap (λ (x : Kind). through (after x n) (take k (drop 1 (bodies tray)))) kind)

@@ -12,9 +12,9 @@ abbrev pub Read : List ℕ → ℕ → ℕ → Type 0
 Read s n i = T (digits s) → value s ≡ value_from n (drop i s)
 
 module _ (s : List ℕ) (n i : ℕ) where
-  value-turn : i < length s → value_from n (drop i s) ≡ value_from (n * 10 + (get_or s i 0 - 48)) (drop (i + 1) s)
+  value_turn : i < length s → value_from n (drop i s) ≡ value_from (n * 10 + (get_or s i 0 - 48)) (drop (i + 1) s)
   unfolding value_from
-  value-turn h = simp (add-one, drop-cons s i 0 h)
+  value_turn h = simp (add-one, drop-cons s i 0 h)
 
   -- the low four bits of a digit are its value
   pub read_turn : i < length s → Read s n i → Read s (n * 10 + get_or s i 0 % 16) (i + 1)
@@ -22,7 +22,7 @@ module _ (s : List ℕ) (n i : ℕ) where
   read_turn h k t =
       let d = within_range 48 57 (get_or s i 0) (every_at digit s i t h) in
       let low : get_or s i 0 - 48 ≡ get_or s i 0 % 16 = omega arith in
-      k t ∙ (value-turn h ∙ rw low)
+      k t ∙ (value_turn h ∙ rw low)
 
   pub read_end : length s ≤ i → Read s n i → T (digits s) → n ≡ value s
   unfolding value_from

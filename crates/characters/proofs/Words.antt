@@ -25,11 +25,11 @@ blanks = 0x2020_2020_2020_2020
 
 -- the lowest byte of two numbers, and the rest
 module _ (x b y c : ℕ) (h : b < 256) (k : c < 256) where
-  byte-and : bit_and (x * 256 + b) (y * 256 + c) ≡ bit_and x y * 256 + bit_and b c
-  byte-and = and_block 8 x y b c h k
+  byte_and : bit_and (x * 256 + b) (y * 256 + c) ≡ bit_and x y * 256 + bit_and b c
+  byte_and = and_block 8 x y b c h k
 
-  byte-eqb : eqb (x * 256 + b) (y * 256 + c) ≡ (eqb b c && eqb x y)
-  byte-eqb = go (eqb b c) (eqb x y) refl refl
+  byte_eqb : eqb (x * 256 + b) (y * 256 + c) ≡ (eqb b c && eqb x y)
+  byte_eqb = go (eqb b c) (eqb x y) refl refl
     where
       go : (p q : Bool) → eqb b c ≡ p → eqb x y ≡ q → eqb (x * 256 + b) (y * 256 + c) ≡ (p && q)
       go true true d e = eq-eqb (x * 256 + b) (y * 256 + c) (omega (arith, eqb-true b c d, eqb-true x y e))
@@ -76,8 +76,8 @@ and_across false b c d = refl
 low_test : (w c mask : ℕ) → c < 256 → w ≡ w / 256 * 256 + c → eqb (bit_and w (mask * 256 + 240)) 0 ≡ (eqb (bit_and c 240) 0 && eqb (bit_and (w / 256) mask) 0)
 low_test w c mask h e =
     ap (λ (n : ℕ). eqb (bit_and n (mask * 256 + 240)) 0) e
-    ∙ (ap (λ (n : ℕ). eqb n 0) (byte-and (w / 256) c mask 240 h (omega arith))
-    ∙ byte-eqb (bit_and (w / 256) mask) (bit_and c 240) 0 0 (omega (arith, and_le_l c 240)) (omega arith))
+    ∙ (ap (λ (n : ℕ). eqb n 0) (byte_and (w / 256) c mask 240 h (omega arith))
+    ∙ byte_eqb (bit_and (w / 256) mask) (bit_and c 240) 0 0 (omega (arith, and_le_l c 240)) (omega arith))
 
 tested : (f : List ℕ) (k m : Bool) (v u : ℕ) → Bytes f
     → v + each 48 f ≡ packed f + wrapped k (length f) → v < wrapped true (length f) → u + wrapped m (length f) ≡ v + each 6 f
@@ -127,7 +127,7 @@ compared [] [] h k e = refl
 compared [] (c ∷ g) h k e = absurd (omega arith)
 compared (b ∷ f) [] h k e = absurd (omega arith)
 compared (b ∷ f) (c ∷ g) h k e =
-    byte-eqb (packed f) b (packed g) c (h 0) (k 0)
+    byte_eqb (packed f) b (packed g) c (h 0) (k 0)
     ∙ ap (λ (q : Bool). eqb b c && q) (compared f g (λ i. h (suc i)) (λ i. k (suc i)) (omega arith))
 
 pub packs_same : {f g : List ℕ} {m n : ℕ} → Packs f m → Packs g n → eqb m n ≡ same f g
@@ -186,9 +186,9 @@ module _ (r : List ℕ) (first last : ℕ) (h : HasField r first last) (k : firs
           let at : last - 8 + 1 ≡ last - 7 = omega arith in
           let begins = parted r first (first + 7) last h.0 (omega arith) k in
           let ends = parted r first (last - 8) last h.0 (omega arith) (omega arith) in
-          let first-blank = packs_blanks p (every_l (eqb 32) (field r first (first + 7)) (field r (first + 7 + 1) last) (rw begins at (T_of e))) in
-          let last-blank = packs_blanks q (rw at at (every_r (eqb 32) (field r first (last - 8)) (field r (last - 8 + 1) last) (rw ends at (T_of e)))) in
-          absurd (o (rw (first-blank, last-blank) (or_self blanks)))
+          let first_blank = packs_blanks p (every_l (eqb 32) (field r first (first + 7)) (field r (first + 7 + 1) last) (rw begins at (T_of e))) in
+          let last_blank = packs_blanks q (rw at at (every_r (eqb 32) (field r first (last - 8)) (field r (last - 8 + 1) last) (rw ends at (T_of e)))) in
+          absurd (o (rw (first_blank, last_blank) (or_self blanks)))
       go false e = refl
 
 -- n bytes of a record, one by one

@@ -38,35 +38,35 @@ module _ (file piece : List ℕ) (none : length file % 250 ≡ 0) where
   on : (m : ℕ) → parts 250 (n + m) (file ++ piece) ≡ company_records file ++ parts 250 m piece
   on m = parts_append 250 n m file piece (omega arith)
 
-  records-on : company_records (file ++ piece) ≡ company_records file ++ company_records piece
-  records-on = let e : length (file ++ piece) / 250 ≡ n + length piece / 250 = omega (arith, long) in ap (λ (k : ℕ). parts 250 k (file ++ piece)) e ∙ on (length piece / 250)
+  records_on : company_records (file ++ piece) ≡ company_records file ++ company_records piece
+  records_on = let e : length (file ++ piece) / 250 ≡ n + length piece / 250 = omega (arith, long) in ap (λ (k : ℕ). parts 250 k (file ++ piece)) e ∙ on (length piece / 250)
 
   -- a piece with a record: it has the last
   module _ (h : 250 ≤ length piece) where
-    details-on : details_of (file ++ piece) ≡ company_records file ++ details_of piece
+    details_on : details_of (file ++ piece) ≡ company_records file ++ details_of piece
     unfolding details_of
-    details-on =
+    details_on =
         let e : length (file ++ piece) / 250 - 1 ≡ n + (length piece / 250 - 1) = omega (arith, long) in
         ap (λ (k : ℕ). parts 250 k (file ++ piece)) e ∙ on (length piece / 250 - 1)
 
-    closing-on : closing_of (file ++ piece) ≡ closing_of piece
+    closing_on : closing_of (file ++ piece) ≡ closing_of piece
     unfolding closing_of
-    closing-on =
+    closing_on =
         let m : ℕ = (length piece / 250 - 1) * 250 in
         let e : (length (file ++ piece) / 250 - 1) * 250 ≡ length file + m = omega (arith, long) in
         ap (λ (k : ℕ). take 250 (drop k (file ++ piece))) e ∙ ap (take 250) (drop-append-add file piece m)
 
   -- one without: the last stays
   module _ (h : length piece < 250) where
-    same-records : company_records (file ++ piece) ≡ company_records file
+    same_records : company_records (file ++ piece) ≡ company_records file
     unfolding parts
-    same-records =
+    same_records =
         let e : length piece / 250 ≡ 0 = omega arith in
-        records-on ∙ ap (λ (k : ℕ). company_records file ++ parts 250 k piece) e ∙ append-nil (company_records file)
+        records_on ∙ ap (λ (k : ℕ). company_records file ++ parts 250 k piece) e ∙ append-nil (company_records file)
 
-    same-details : details_of (file ++ piece) ≡ details_of file
+    same_details : details_of (file ++ piece) ≡ details_of file
     unfolding details_of
-    same-details =
+    same_details =
         let e : length (file ++ piece) / 250 ≡ n = omega (arith, long) in
         ap (λ (k : ℕ). parts 250 (k - 1) (file ++ piece)) e ∙ parts_front 250 (n - 1) file piece (omega arith)
 
@@ -78,7 +78,7 @@ module _ (file piece : List ℕ) (none : length file % 250 ≡ 0) where
 
     same_end : 250 ≤ length file → closing_fault (file ++ piece) ≡ closing_fault file
     unfolding closing_fault
-    same_end k = rw (same-details, same_closing k)
+    same_end k = rw (same_details, same_closing k)
 
 -- ---- what is known
 
@@ -99,8 +99,8 @@ as_kept details sum other r l e = sym (closing_kept details sum r l) ∙ ap (λ 
 -- the first fault of the records so far, and of those of the piece after them
 module _ (currency : Currency) (lo file : List ℕ) (ds : List (List ℕ)) {before : Said} {records : ℕ}
     (k : records ≡ length file / 250) (g : before ≡ details_fault currency lo 0 (company_records file)) where
-  first-of-both : and_then before (details_fault currency lo records ds) ≡ details_fault currency lo 0 (company_records file ++ ds)
-  first-of-both =
+  first_of_both : and_then before (details_fault currency lo records ds) ≡ details_fault currency lo 0 (company_records file ++ ds)
+  first_of_both =
       let e : records ≡ 0 + length (company_records file) = k ∙ sym (length_parts 250 (length file / 250) file) ∙ sym (zero-add (length (company_records file))) in
       ap₂ (λ (x : Said) (n : ℕ). and_then x (details_fault currency lo n ds)) g e ∙ sym (faults_joined currency lo (company_records file) ds 0)
 
@@ -111,26 +111,26 @@ module _ (currency : Currency) (lo : List ℕ) (p r : Pieces) (file piece : List
     going_on : said r.going ≡ details_fault currency lo 0 (company_records (file ++ piece))
     going_on =
         m.going ∙ ap (λ (c : Currency). and_then (said p.going) (details_fault c lo p.records (company_records piece))) money
-        ∙ first-of-both currency lo file (company_records piece) k j.going
-        ∙ ap (details_fault currency lo 0) (sym (records-on file piece none))
+        ∙ first_of_both currency lo file (company_records piece) k j.going
+        ∙ ap (details_fault currency lo 0) (sym (records_on file piece none))
 
     -- the sum counts where no record is at fault
-    sum-so : (ds : List (List ℕ)) → said p.going ≡ accepted → kept (p.sum + amounts_in ds) ≡ kept (amounts_in (company_records file ++ ds))
-    sum-so ds e =
+    sum_so : (ds : List (List ℕ)) → said p.going ≡ accepted → kept (p.sum + amounts_in ds) ≡ kept (amounts_in (company_records file ++ ds))
+    sum_so ds e =
         ap (λ (n : ℕ). kept (n + amounts_in ds)) (j.sum e) ∙ kept_on (amounts_in (company_records file)) (amounts_in ds)
         ∙ ap kept (sym (amounts_joined (company_records file) ds))
 
-    sum-on : said r.going ≡ accepted → r.sum ≡ kept (amounts_in (company_records (file ++ piece)))
-    sum-on e =
+    sum_on : said r.going ≡ accepted → r.sum ≡ kept (amounts_in (company_records (file ++ piece)))
+    sum_on e =
         let before = both_accept (said p.going) (details_fault p.currency lo p.records (company_records piece)) (sym m.going ∙ e) in
-        m.sum ∙ ap (λ (a : Said). sum_if a (kept (p.sum + amounts_in (company_records piece)))) e ∙ sum-so (company_records piece) before.0 ∙ ap (λ (rs : List (List ℕ)). kept (amounts_in rs)) (sym (records-on file piece none))
+        m.sum ∙ ap (λ (a : Said). sum_if a (kept (p.sum + amounts_in (company_records piece)))) e ∙ sum_so (company_records piece) before.0 ∙ ap (λ (rs : List (List ℕ)). kept (amounts_in rs)) (sym (records_on file piece none))
 
     abbrev closes : ℕ → ℕ → Said
     closes n sum = require (closing_good n sum (closing_of piece)) 17 n
 
-    ending-on : said r.ending ≡ and_then (details_fault currency lo 0 (details_of (file ++ piece))) (closing_fault (file ++ piece))
+    ending_on : said r.ending ≡ and_then (details_fault currency lo 0 (details_of (file ++ piece))) (closing_fault (file ++ piece))
     unfolding closing_fault
-    ending-on =
+    ending_on =
         let ds = details_of piece in
         let all = company_records file ++ ds in
         let before = and_then (said p.going) (details_fault p.currency lo p.records ds) in
@@ -138,25 +138,25 @@ module _ (currency : Currency) (lo : List ℕ) (p r : Pieces) (file piece : List
         m.ending
         ∙ then_alike before (λ e.
         ap (λ (b : Bool). require b 17 (p.records + length ds))
-        (as_kept (p.records + length ds) (p.sum + amounts_in ds) (amounts_in all) (closing_of piece) (closing_long piece h) (sum-so ds (both_accept (said p.going) (details_fault p.currency lo p.records ds) e).0))
+        (as_kept (p.records + length ds) (p.sum + amounts_in ds) (amounts_in all) (closing_of piece) (closing_long piece h) (sum_so ds (both_accept (said p.going) (details_fault p.currency lo p.records ds) e).0))
         ∙ ap (λ (x : ℕ). closes x (amounts_in all)) n)
         ∙ ap (λ (x : Said). and_then x (closes (length all) (amounts_in all)))
-        (ap (λ (c : Currency). and_then (said p.going) (details_fault c lo p.records ds)) money ∙ first-of-both currency lo file ds k j.going)
-        ∙ rw (details-on file piece none h, closing-on file piece none h) refl
+        (ap (λ (c : Currency). and_then (said p.going) (details_fault c lo p.records ds)) money ∙ first_of_both currency lo file ds k j.going)
+        ∙ rw (details_on file piece none h, closing_on file piece none h) refl
 
     further : JudgedSo currency lo r (file ++ piece)
-    further = record { going = going_on; sum = sum-on; ending = λ l. ending-on }
+    further = record { going = going_on; sum = sum_on; ending = λ l. ending_on }
 
   -- it has no record
   module _ (h : length piece < 250) where
-    no-further : JudgedSo currency lo (counted_on p piece) (file ++ piece)
-    no-further =
+    no_further : JudgedSo currency lo (counted_on p piece) (file ++ piece)
+    no_further =
         record {
-          going = j.going ∙ ap (details_fault currency lo 0) (sym (same-records file piece none h));
-          sum = λ e. j.sum e ∙ ap (λ (rs : List (List ℕ)). kept (amounts_in rs)) (sym (same-records file piece none h));
+          going = j.going ∙ ap (details_fault currency lo 0) (sym (same_records file piece none h));
+          sum = λ e. j.sum e ∙ ap (λ (rs : List (List ℕ)). kept (amounts_in rs)) (sym (same_records file piece none h));
           ending = λ l.
               let some : 250 ≤ length file = omega (arith, length-append file piece) in
-              j.ending some ∙ ap₂ (λ (rs : List (List ℕ)) (x : Said). and_then (details_fault currency lo 0 rs) x) (sym (same-details file piece none h)) (sym (same_end file piece none h some));
+              j.ending some ∙ ap₂ (λ (rs : List (List ℕ)) (x : Said). and_then (details_fault currency lo 0 rs) x) (sym (same_details file piece none h)) (sym (same_end file piece none h some));
         }
 
 -- so what is known of some pieces, all but the last of whole records, is what is known of them joined
@@ -200,5 +200,5 @@ company_on currency lo p r file piece s none o = go (leb p.records most_seen) (j
         (record {
           records = n;
           left = lefts (ap (λ (x : Pieces). x.left) same);
-          found = λ body. subst (λ (x : Pieces). JudgedSo currency lo x (file ++ piece)) (sym same) (no-further currency lo p r file piece none s.money w.records (w.found body) (leb-false 250 (length piece) (rw (eq-eqb (length lo) 94 body) at q)));
+          found = λ body. subst (λ (x : Pieces). JudgedSo currency lo x (file ++ piece)) (sym same) (no_further currency lo p r file piece none s.money w.records (w.found body) (leb-false 250 (length piece) (rw (eq-eqb (length lo) 94 body) at q)));
         })

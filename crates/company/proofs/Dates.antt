@@ -41,8 +41,8 @@ dated_alike a b c = go (same a b) refl
     go false e = rw (e, and-false (date_field b && c), and-false (c && date_field a))
 
 module _ (lo r : List ℕ) (l : length lo ≡ 94) (m : length r ≡ 250) where
-  year-month-day : field lo 70 75 ≡ field lo 70 71 ++ field lo 72 73 ++ field lo 74 75
-  year-month-day =
+  year_month_day : field lo 70 75 ≡ field lo 70 71 ++ field lo 72 73 ++ field lo 74 75
+  year_month_day =
       parted_before lo 70 73 74 75 (omega arith) (omega arith) (omega arith) (omega arith)
       ∙ ap (λ (f : List ℕ). f ++ field lo 74 75) (parted_before lo 70 71 72 73 (omega arith) (omega arith) (omega arith) (omega arith))
 
@@ -64,7 +64,7 @@ module _ (lo r : List ℕ) (l : length lo ≡ 94) (m : length r ≡ 250) where
       ≡ (same (field r 32 33) (field lo 70 71) && same (field r 28 29) (field lo 72 73) && same (field r 26 27) (field lo 74 75))
   parts =
       ap (λ (f : List ℕ). same f (field lo 70 75)) short
-      ∙ ap (same (field r 32 33 ++ field r 28 29 ++ field r 26 27)) year-month-day
+      ∙ ap (same (field r 32 33 ++ field r 28 29 ++ field r 26 27)) year_month_day
       ∙ same_joined (field r 32 33 ++ field r 28 29) (field r 26 27) (field lo 70 71 ++ field lo 72 73) (field lo 74 75)
       (length-append (field r 32 33) (field r 28 29) ∙ ap₂ ◌+◌ (two 31 69 (omega arith) (omega arith)) (two 27 71 (omega arith) (omega arith)) ∙ sym (length-append (field lo 70 71) (field lo 72 73)))
       ∙ ap (λ (b : Bool). b && same (field r 26 27) (field lo 74 75))

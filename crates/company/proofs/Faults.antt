@@ -27,10 +27,10 @@ module _ (currency : Currency) (lo : List ℕ) (n place : ℕ) where
     pub before : (j : ℕ) → j < k → Fine currency lo (take 250 (drop (j * 250) l))
     pub fault : detail currency lo (take 250 (drop (k * 250) l)) ≡ wrong n
 
-  faults-found : (m : ℕ) (l : List ℕ) (i : ℕ) → details_fault currency lo i (parts 250 m l) ≡ refused n place → (k : ℕ) × FaultFrom m l i k
+  faults_found : (m : ℕ) (l : List ℕ) (i : ℕ) → details_fault currency lo i (parts 250 m l) ≡ refused n place → (k : ℕ) × FaultFrom m l i k
   unfolding parts details_fault and_then at
-  faults-found zero l i h = absurd (refused_not (sym h))
-  faults-found (suc m) l i h = go (detail currency lo (take 250 l)) refl h (faults-found m (drop 250 l) (i + 1))
+  faults_found zero l i h = absurd (refused_not (sym h))
+  faults_found (suc m) l i h = go (detail currency lo (take 250 l)) refl h (faults_found m (drop 250 l) (i + 1))
     where
       go : (c : Check) → detail currency lo (take 250 l) ≡ c
           → and_then (at i c) (details_fault currency lo (i + 1) (parts 250 m (drop 250 l))) ≡ refused n place
@@ -52,13 +52,13 @@ module _ (currency : Currency) (lo : List ℕ) (n place : ℕ) where
           let q : x ≡ n = cc in
           (0, record { there = omega arith; stands = omega arith; before = λ j b. absurd (omega arith); fault = e ∙ ap wrong q })
 
-  faults-named : (m : ℕ) (l : List ℕ) (i k : ℕ) → FaultFrom m l i k → details_fault currency lo i (parts 250 m l) ≡ refused n place
+  faults_named : (m : ℕ) (l : List ℕ) (i k : ℕ) → FaultFrom m l i k → details_fault currency lo i (parts 250 m l) ≡ refused n place
   unfolding parts details_fault and_then at
-  faults-named zero l i k f = absurd (omega (arith, f.there))
-  faults-named (suc m) l i zero f = let p : i ≡ place = omega (arith, f.stands) in rw (f.fault, p) refl
-  faults-named (suc m) l i (suc k) f =
+  faults_named zero l i k f = absurd (omega (arith, f.there))
+  faults_named (suc m) l i zero f = let p : i ≡ place = omega (arith, f.stands) in rw (f.fault, p) refl
+  faults_named (suc m) l i (suc k) f =
       rw (f.before 0 (omega arith))
-      (faults-named m (drop 250 l) (i + 1) k
+      (faults_named m (drop 250 l) (i + 1) k
       record {
         there = omega (arith, f.there);
         stands = omega (arith, f.stands);
@@ -73,7 +73,7 @@ module _ (currency : Currency) (lo file : List ℕ) (n place : ℕ) where
   first_found : detail_tests ≡ refused n place → FirstAtFault currency lo file n place
   unfolding details_of
   first_found h =
-      let x = faults-found currency lo n place (detail_count file) file 0 h in
+      let x = faults_found currency lo n place (detail_count file) file 0 h in
       let p : x.0 ≡ place = omega (arith, x.1.stands) in
       record {
         there = omega (arith, x.1.there);
@@ -84,13 +84,13 @@ module _ (currency : Currency) (lo file : List ℕ) (n place : ℕ) where
   first_named : FirstAtFault currency lo file n place → detail_tests ≡ refused n place
   unfolding details_of
   first_named f =
-      faults-named currency lo n place (detail_count file) file 0 place
+      faults_named currency lo n place (detail_count file) file 0 place
       record { there = f.there; stands = omega arith; before = λ k b. (detail_exactly currency lo (company_record_at file k)).1 (f.before k b); fault = f.fault }
 
-  last-named : closing_fault file ≡ refused n place
+  last_named : closing_fault file ≡ refused n place
       → (closing_good (detail_count file) (amounts_in (details_of file)) (company_record_at file (detail_count file)) ≡ false) × (n ≡ 17) × (place ≡ detail_count file)
   unfolding closing_fault closing_of
-  last-named h =
+  last_named h =
       rw (details_count file) at (require_refused (closing_good (length (details_of file)) (amounts_in (details_of file)) (closing_of file)) 17 (length (details_of file)) h)
 
   named : company_answer currency lo file ≡ refused n place → CompanyFaulty currency lo file n place
@@ -103,7 +103,7 @@ module _ (currency : Currency) (lo file : List ℕ) (n place : ℕ) where
       (λ b.
       let l = required (lo_good lo) 207 0 b.0 in
       ⊎_elim (λ x. inr (inr (inl (w, l, first_found x))))
-      (λ c. let q = last-named c.1 in inr (inr (inr (w, l, (details_exactly currency lo file).0 c.0, q.0, q.1, q.2))))
+      (λ c. let q = last_named c.1 in inr (inr (inr (w, l, (details_exactly currency lo file).0 c.0, q.0, q.1, q.2))))
       (first_refusal _ _ b.1))
       (first_refusal _ _ a.1))
       (first_refusal _ _ h)

@@ -38,7 +38,7 @@ unfolding need ◌also◌
 passed_over true x y = refl
 passed_over false x y = refl
 
-module _ (rules : Rules) (lo r : List ℕ) (lo-long : length lo ≡ 94) (long : length r ≡ 250) (h : detail rules.currency lo r ≡ fine) (m : ℕ) where
+module _ (rules : Rules) (lo r : List ℕ) (lo_long : length lo ≡ 94) (long : length r ≡ 250) (h : detail rules.currency lo r ≡ fine) (m : ℕ) where
   abbrev plain : List ℕ
   plain = order_of rules.currency lo r
 
@@ -50,7 +50,7 @@ module _ (rules : Rules) (lo r : List ℕ) (lo-long : length lo ≡ 94) (long : 
   asked = (detail_exactly rules.currency lo r).0 h
 
   holds : OrderFor rules.currency lo r plain
-  holds = order_for rules.currency lo r lo-long long h
+  holds = order_for rules.currency lo r lo_long long h
 
   -- the number stands in 88-94 only
   kept : (a w : ℕ) → T (leb (a + w) 87) → take w (drop a order) ≡ take w (drop a plain)
@@ -61,16 +61,16 @@ module _ (rules : Rules) (lo r : List ℕ) (lo-long : length lo ≡ 94) (long : 
   unfolding code_of
   code = rw (kept 1 2 tt) holds.code
 
-  digits-good : (f : List ℕ) → T (digits f) → T (every good f)
-  digits-good f t = every_other digit good digit_good f t
+  digits_good : (f : List ℕ) → T (digits f) → T (every good f)
+  digits_good f t = every_other digit good digit_good f t
 
   text-good : (f : List ℕ) → T (text_good f) → T (every good f)
   unfolding text_good
   text-good f t = and_l (every good f) (not (blank f)) t
 
-  some-text : (f : List ℕ) → T (text_good f) → blank f ≡ false
+  some_text : (f : List ℕ) → T (text_good f) → blank f ≡ false
   unfolding text_good
-  some-text f t = not-true (blank f) (of_T (not (blank f)) (and_r (every good f) (not (blank f)) t))
+  some_text f t = not-true (blank f) (of_T (not (blank f)) (and_r (every good f) (not (blank f)) t))
 
   -- of an order made of a detail that nothing is wrong with, all that the reading of a session of its currency can say is 204 for the payer's entity, and
   -- what it says of the counter, which building and the LO body made
@@ -95,10 +95,10 @@ module _ (rules : Rules) (lo r : List ℕ) (lo-long : length lo ≡ 94) (long : 
         of_T (ltb 0 (number (cents_in r))) asked.some,
         kept 39 15 tt,
         holds.reference,
-        some-text (reference_in r) asked.reference,
+        some_text (reference_in r) asked.reference,
         kept 54 22 tt,
         holds.client,
-        some-text (client_in r) asked.client,
+        some_text (client_in r) asked.client,
         kept 76 2 tt,
         holds.information,
         kept 78 1 tt,
@@ -112,13 +112,13 @@ module _ (rules : Rules) (lo r : List ℕ) (lo-long : length lo ≡ 94) (long : 
   unfolding numbered every good among
   order_characters t =
       let n : ℕ = currency_adds rules.currency + payer_entity r in
-      let branch = digits-good (field r 37 40) (branch_digits rules.currency lo r lo-long long asked.block1) in
+      let branch = digits_good (field r 37 40) (branch_digits rules.currency lo r lo_long long asked.block1) in
       let whom = every_both good (spelled 4 n) (field r 37 40) (good_spelled 4 n) branch in
-      let account = every_both good (bytes "000") (block2_in r) tt (digits-good (block2_in r) asked.block2) in
-      let cents = digits-good (cents_in r) asked.cents in
+      let account = every_both good (bytes "000") (block2_in r) tt (digits_good (block2_in r) asked.block2) in
+      let cents = digits_good (cents_in r) asked.cents in
       let reference = text-good (reference_in r) asked.reference in
       let client = text-good (client_in r) asked.client in
-      let all : T (every good plain) = rw (made rules.currency lo r lo-long long) (every_joined good (pieces rules.currency lo r lo-long long) (search depth 14)) in
+      let all : T (every good plain) = rw (made rules.currency lo r lo_long long) (every_joined good (pieces rules.currency lo r lo_long long) (search depth 14)) in
       every_both good (take 87 plain) (spelled 7 m) (every_take good 87 plain all) (good_spelled 7 m)
 
 -- so of every order on the tray of an accepted file, under any number

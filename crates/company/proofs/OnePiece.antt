@@ -71,10 +71,10 @@ module _ (piece : List ℕ) (h : 250 ≤ length piece) where
         ∙ ap kept (add_assoc sum a (amounts_in tail) ∙ ap (λ (n : ℕ). sum + n) (sym (ap amounts_in in_two ∙ amounts_joined (parts 250 last piece) tail)))
 
     -- the last as the closing record: its sum counts where no detail is at fault
-    closes-alike : {inner : ℕ} → inner ≡ kept (sum + amounts_in (details_of piece))
+    closes_alike : {inner : ℕ} → inner ≡ kept (sum + amounts_in (details_of piece))
         → require (closing_good (from + last) inner (closing_of piece)) 17 (from + last)
         ≡ require (closing_good (from + length (details_of piece)) (sum + amounts_in (details_of piece)) (closing_of piece)) 17 (from + length (details_of piece))
-    closes-alike e =
+    closes_alike e =
         let ds = details_of piece in
         let r = closing_of piece in
         ap (λ (n : ℕ). require (closing_good (from + last) n r) 17 (from + last)) e
@@ -91,5 +91,5 @@ module _ (piece : List ℕ) (h : 250 ≤ length piece) where
     last_closes before {found} {closed} {inner} f s c =
         let ds = parts 250 last piece in
         let r = take 250 (drop (last * 250) piece) in
-        then_alike (and_then before found) (λ a. c ∙ closes-alike (s (both_accept before found a).1))
+        then_alike (and_then before found) (λ a. c ∙ closes_alike (s (both_accept before found a).1))
         ∙ ap (λ (x : Said). and_then (and_then before x) (require (closing_good (from + length ds) (sum + amounts_in ds) r) 17 (from + length ds))) f

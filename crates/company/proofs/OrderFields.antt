@@ -83,7 +83,7 @@ module _ (currency : Currency) (e : ℕ) (branch : List ℕ) (low : 1 ≤ e) (hi
 
 -- ---- the order as its pieces
 
-module _ (currency : Currency) (lo r : List ℕ) (lo-long : length lo ≡ 94) (long : length r ≡ 250) where
+module _ (currency : Currency) (lo r : List ℕ) (lo_long : length lo ≡ 94) (long : length r ≡ 250) where
   abbrev order : List ℕ
   order = order_of currency lo r
 
@@ -100,7 +100,7 @@ module _ (currency : Currency) (lo r : List ℕ) (lo-long : length lo ≡ 94) (l
   made = simp (append_assoc, append-nil)
 
   wide : Wide widths pieces
-  wide = simp (length-append, length_spelled, length-take, length-drop, lo-long, long)
+  wide = simp (length-append, length_spelled, length-take, length-drop, lo_long, long)
 
   -- the piece of an index stands at its positions
   piece : (i : ℕ) → T (ltb i 11) → take (get_or widths i 0) (drop (offset widths i) order) ≡ get_or pieces i []
@@ -110,9 +110,9 @@ module _ (currency : Currency) (lo r : List ℕ) (lo-long : length lo ≡ 94) (l
   unfolding kind_of kind order_of
   its_type = refl
 
-  its-code : code_of order ≡ Order
+  its_code : code_of order ≡ Order
   unfolding code_of order_of same
-  its-code = refl
+  its_code = refl
 
   pub its_zeros : field order 88 94 ≡ bytes "0000000"
   its_zeros = piece 10 tt
@@ -121,8 +121,8 @@ module _ (currency : Currency) (lo r : List ℕ) (lo-long : length lo ≡ 94) (l
   unfolding amount_of
   its_amount = ap number (piece 4 tt)
 
-  its-branch : field order 8 11 ≡ field r 37 40
-  its-branch =
+  its_branch : field order 8 11 ≡ field r 37 40
+  its_branch =
       let n : ℕ = currency_adds currency + payer_entity r in
       ap (λ (o : List ℕ). field o 8 11) made ∙ part_at widths pieces wide 1 4 4 tt tt
       ∙ ap (take 4) (drop_at (spelled 4 n) (field r 37 40) 4 (length_spelled 4 n)) ∙ take_all 4 (field r 37 40) (omega (arith, length-take 4 (drop 36 r)))
@@ -140,13 +140,13 @@ module _ (currency : Currency) (lo r : List ℕ) (lo-long : length lo ≡ 94) (l
       let e = within_range 1 499 (payer_entity r) g.payer in
       let branch = branch_digits g.block1 in
       record {
-        long = order_length currency lo r lo-long long;
+        long = order_length currency lo r lo_long long;
         type = its_type;
-        code = its-code;
+        code = its_code;
         destination = rw (piece 1 tt) (the_field currency (payer_entity r) (field r 37 40) e.0 e.1 branch);
         money = rw (piece 1 tt) (the-currency currency (payer_entity r) (field r 37 40) e.0 e.1);
         payer = ap entity (piece 1 tt) ∙ the-entity currency (payer_entity r) (field r 37 40) e.0 e.1;
-        branch = its-branch;
+        branch = its_branch;
         reserved = piece 2 tt;
         account = piece 3 tt;
         account_digits = rw (piece 3 tt) (every_both digit (bytes "000") (block2_in r) tt g.block2);

@@ -17,5 +17,5 @@ part_holds test r first from to last h i j k e =
     let rest = field r from last in
     let two = ap (every test) (parted_before r first (from - 1) from last h i (omega arith) (omega arith)) ∙ every_append test before rest in
     let back = ap (every test) (parted_before r from to (to + 1) last (omega arith) (omega arith) k (omega arith)) ∙ every_append test (field r from to) behind in
-    let rest-holds = of_T (every test rest) (and_r (every test before) (every test rest) (T_of (sym two ∙ e))) in
-    of_T (every test (field r from to)) (and_l (every test (field r from to)) (every test behind) (T_of (sym back ∙ rest-holds)))
+    let rest_holds = of_T (every test rest) (and_r (every test before) (every test rest) (T_of (sym two ∙ e))) in
+    of_T (every test (field r from to)) (and_l (every test (field r from to)) (every test behind) (T_of (sym back ∙ rest_holds)))

@@ -36,31 +36,31 @@ spelled_number : (f : List ℕ) (n : ℕ) → T (spells f n) → number f ≡ n
 unfolding spells number
 spelled_number f n t = rw (of_T (digits f) (and_l (digits f) (eqb (value f) n) t)) (eqb→eq (value f) n (and_r (digits f) (eqb (value f) n) t))
 
-module _ (currency : Currency) (lo : List ℕ) (lo-long : length lo ≡ 94) where
+module _ (currency : Currency) (lo : List ℕ) (lo_long : length lo ≡ 94) where
   -- an order is marked as an individual
-  order-good : (r : List ℕ) → length r ≡ 250 → T (tray_record_good (marked_order currency lo r))
+  order_good : (r : List ℕ) → length r ≡ 250 → T (tray_record_good (marked_order currency lo r))
   unfolding tray_record_good mark_good same
-  order-good r l = rw (its_type currency lo r lo-long l, its_zeros currency lo r lo-long l) tt
+  order_good r l = rw (its_type currency lo r lo_long l, its_zeros currency lo r lo_long l) tt
 
-  orders-pass : (rs : List (List ℕ)) (place : ℕ) → Sized 250 rs → tray_fault place (map (marked_order currency lo) rs) ≡ accepted
+  orders_pass : (rs : List (List ℕ)) (place : ℕ) → Sized 250 rs → tray_fault place (map (marked_order currency lo) rs) ≡ accepted
   unfolding tray_fault and_then
-  orders-pass [] place z = refl
-  orders-pass (r ∷ rs) place z =
-      rw (require_met (tray_record_good (marked_order currency lo r)) 207 place (order-good r z.0)) (orders-pass rs (place + 1) z.1)
+  orders_pass [] place z = refl
+  orders_pass (r ∷ rs) place z =
+      rw (require_met (tray_record_good (marked_order currency lo r)) 207 place (order_good r z.0)) (orders_pass rs (place + 1) z.1)
 
   -- and has the detail's amount
-  amounts-kept : (rs : List (List ℕ)) → Sized 250 rs → amounts_of (map (drop 2) (map (marked_order currency lo) rs)) ≡ amounts_in rs
+  amounts_kept : (rs : List (List ℕ)) → Sized 250 rs → amounts_of (map (drop 2) (map (marked_order currency lo) rs)) ≡ amounts_in rs
   unfolding amounts_of amounts_in
-  amounts-kept [] z = refl
-  amounts-kept (r ∷ rs) z = ap₂ ◌+◌ (its_amount currency lo r lo-long z.0) (amounts-kept rs z.1)
+  amounts_kept [] z = refl
+  amounts_kept (r ∷ rs) z = ap₂ ◌+◌ (its_amount currency lo r lo_long z.0) (amounts_kept rs z.1)
 
   -- it opens no batch
-  orders-inside : (rs : List (List ℕ)) (b : ℕ) → Sized 250 rs → batches_in b (map (drop 2) (map (marked_order currency lo) rs)) ≡ b
+  orders_inside : (rs : List (List ℕ)) (b : ℕ) → Sized 250 rs → batches_in b (map (drop 2) (map (marked_order currency lo) rs)) ≡ b
   unfolding batches_in batches_after
-  orders-inside [] b z = refl
-  orders-inside (r ∷ rs) b z =
+  orders_inside [] b z = refl
+  orders_inside (r ∷ rs) b z =
       let rest : List (List ℕ) = map (drop 2) (map (marked_order currency lo) rs) in
-      ap (λ (k : Kind). batches_in (batches_after k b) rest) (its_type currency lo r lo-long z.0) ∙ orders-inside rs b z.1
+      ap (λ (k : Kind). batches_in (batches_after k b) rest) (its_type currency lo r lo_long z.0) ∙ orders_inside rs b z.1
 
 module _ (currency : Currency) (lo file : List ℕ) (h : company_answer currency lo file ≡ accepted) where
   abbrev tray : List ℕ
@@ -91,7 +91,7 @@ module _ (currency : Currency) (lo file : List ℕ) (h : company_answer currency
   tray_good header l =
       let m : length tray % 96 ≡ 0 = omega (arith, tray_length currency lo file good.body) in
       let first = require_met (tray_record_good (bytes "LO" ++ lo)) 207 0 first_good in
-      rw (l, m, tray_records_lem, first) (orders-pass currency lo good.body (details_of file) 1 (details_long file))
+      rw (l, m, tray_records_lem, first) (orders_pass currency lo good.body (details_of file) 1 (details_long file))
 
   -- (not so with a last order cut short)
   pub tray_sound : Sound tray
@@ -104,7 +104,7 @@ module _ (currency : Currency) (lo file : List ℕ) (h : company_answer currency
   tray_batches =
       ap (λ (ts : List (List ℕ)). batches_in 0 (map (drop 2) ts)) tray_records_lem
       ∙ ap (λ (k : Kind). batches_in (batches_after k 0) (map (drop 2) orders)) (opens_batch_lem lo good.body good.opens)
-      ∙ orders-inside currency lo good.body (details_of file) 1 (details_long file)
+      ∙ orders_inside currency lo good.body (details_of file) 1 (details_long file)
 
   -- record k + 1 is the order of detail k
   pub order_at : (k : ℕ) → k < length (details_of file) → body_at tray (k + 1) ≡ order_of currency lo (company_record_at file k)
@@ -134,7 +134,7 @@ module _ (currency : Currency) (lo file : List ℕ) (h : company_answer currency
   unfolding closing_of
   tray_amounts =
       ap (λ (ts : List (List ℕ)). amounts_of (drop 1 (map (drop 2) ts))) tray_records_lem
-      ∙ amounts-kept currency lo good.body (details_of file) (details_long file)
+      ∙ amounts_kept currency lo good.body (details_of file) (details_long file)
       ∙ sym (spelled_number (field (closing_of file) 104 113) (amounts_in (details_of file)) good.closing.cents)
 
   -- and their number is both of its counts

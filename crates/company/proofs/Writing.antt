@@ -32,9 +32,9 @@ module _ (currency : Currency) (lo file : List ℕ) (details place : ℕ) where
   abbrev pub made : List ℕ
   made = orders_of currency lo (take place (front details file))
 
-  one-made : place < details → orders_of currency lo (take (place + 1) (front details file)) ≡ made ++ marked_order currency lo (company_record_at file place)
+  one_made : place < details → orders_of currency lo (take (place + 1) (front details file)) ≡ made ++ marked_order currency lo (company_record_at file place)
   unfolding joined
-  one-made h =
+  one_made h =
       let ds = front details file in
       let i : place < length ds = omega (arith, length_parts 250 details file) in
       let here : get_or ds place [] ≡ company_record_at file place = head-eq_of_cons-eq (sym (drop-cons ds place [] i) ∙ parts_from 250 details file place h) in
@@ -57,4 +57,4 @@ module _ (currency : Currency) (lo file : List ℕ) (details place : ℕ) where
         let at : ℕ = place * 96 in
         let order : List ℕ = marked_order currency lo (company_record_at file place) in
         let k : length order ≡ 96 = length-append (bytes "IN") (order_of currency lo (company_record_at file place)) ∙ omega (arith, order_length currency lo (company_record_at file place) l long) in
-        rw (one-made h, e) (on w order (omega (arith, k), part_laid at (at + 96) order new (omega (arith, k))))
+        rw (one_made h, e) (on w order (omega (arith, k), part_laid at (at + 96) order new (omega (arith, k))))

@@ -97,15 +97,15 @@ module _ (currency : Currency) (lo file before : List ℕ) (r : Output) (after :
             let q = require_refused (leb (length new) (length before)) 206 0 x.1 in
             ((company_exactly currency lo file).0 x.0, omega (arith, leb-false (length new) (length before) q.0, tray_size currency lo file x.0), q.1, q.2))
             (first_refusal (company_answer currency lo file) (room_for new before) (sym made_answer ∙ t.0 p)),
-        λ f. t.1 (made_answer ∙ ⊎_elim by-file by-room f),
+        λ f. t.1 (made_answer ∙ ⊎_elim by_file by_room f),
       )
     where
-      by-file : CompanyFaulty currency lo file (number_of fault) place → answer_to_company currency lo file before ≡ refused (number_of fault) place
-      by-file x = rw ((company_faults currency lo file (number_of fault) place).1 x) refl
+      by_file : CompanyFaulty currency lo file (number_of fault) place → answer_to_company currency lo file before ≡ refused (number_of fault) place
+      by_file x = rw ((company_faults currency lo file (number_of fault) place).1 x) refl
 
-      by-room : CompanyGood currency lo file × (length before < tray_bytes file) × (number_of fault ≡ 206) × (place ≡ 0)
+      by_room : CompanyGood currency lo file × (length before < tray_bytes file) × (number_of fault ≡ 206) × (place ≡ 0)
           → answer_to_company currency lo file before ≡ refused (number_of fault) place
-      by-room x =
+      by_room x =
           let a = (company_exactly currency lo file).1 x.0 in
           rw (a, lt-leb (length (company_tray currency lo file)) (length before) (omega (arith, x.1, tray_size currency lo file a)), x.2, x.3) refl
 

@@ -30,29 +30,29 @@ use Rattle.company.proofs.Trays.{first_left, tray_records_lem, tray_sound, tray_
 use Rattle.building.proofs.Sizes.{build_length}
 use Rattle.demands.specs.Company.{tray_bytes, built_bytes, numbered_orders}
 
-module _ (currency : Currency) (lo : List ℕ) (lo-long : length lo ≡ 94) where
+module _ (currency : Currency) (lo : List ℕ) (lo_long : length lo ≡ 94) where
   -- building numbers the orders 1, 2, ..
-  orders-numbered : (rs : List (List ℕ)) (b n : ℕ) → Sized 250 rs
+  orders_numbered : (rs : List (List ℕ)) (b n : ℕ) → Sized 250 rs
       → numbering b n (map (drop 2) (map (marked_order currency lo) rs)) ≡ numbered_orders currency lo (suc n) rs
   unfolding numbering numbered_orders numbered_by batches_after individuals_after
-  orders-numbered [] b n z = refl
-  orders-numbered (r ∷ rs) b n z =
+  orders_numbered [] b n z = refl
+  orders_numbered (r ∷ rs) b n z =
       let o : List ℕ = order_of currency lo r in
       let rest : List (List ℕ) = map (drop 2) (map (marked_order currency lo) rs) in
-      ap (λ (k : Kind). numbered_by k b n o ∷ numbering (batches_after k b) (individuals_after k n) rest) (its_type currency lo r lo-long z.0)
-      ∙ ap (λ (os : List (List ℕ)). numbered (suc n) o ∷ os) (orders-numbered rs b (suc n) z.1)
+      ap (λ (k : Kind). numbered_by k b n o ∷ numbering (batches_after k b) (individuals_after k n) rest) (its_type currency lo r lo_long z.0)
+      ∙ ap (λ (os : List (List ℕ)). numbered (suc n) o ∷ os) (orders_numbered rs b (suc n) z.1)
 
   -- and puts controls behind them only
-  controls-behind : (rs : List (List ℕ)) (n : ℕ) (c : Reckoning) → Sized 250 rs
+  controls_behind : (rs : List (List ℕ)) (n : ℕ) (c : Reckoning) → Sized 250 rs
       → (d : Reckoning) × (with_controls c (numbered_orders currency lo n rs) ≡ numbered_orders currency lo n rs ++ ending d)
   unfolding numbered_orders with_controls owed_before settled_before
-  controls-behind [] n c z = (c, refl)
-  controls-behind (r ∷ rs) n c z =
+  controls_behind [] n c z = (c, refl)
+  controls_behind (r ∷ rs) n c z =
       let o : List ℕ = numbered n (order_of currency lo r) in
       let os : List (List ℕ) = numbered_orders currency lo (suc n) rs in
-      let l = order_length currency lo r lo-long z.0 in
-      let k : kind_of o ≡ Individual = kind_numbered n (order_of currency lo r) (omega arith) ∙ its_type currency lo r lo-long z.0 in
-      let x = controls-behind rs (suc n) (after_writing Individual c o) z.1 in
+      let l = order_length currency lo r lo_long z.0 in
+      let k : kind_of o ≡ Individual = kind_numbered n (order_of currency lo r) (omega arith) ∙ its_type currency lo r lo_long z.0 in
+      let x = controls_behind rs (suc n) (after_writing Individual c o) z.1 in
       (x.0, ap (λ (k : Kind). owed_before k c ++ o ∷ with_controls (after_writing k c o) os) k ∙ ap (λ (t : List (List ℕ)). o ∷ t) x.1)
 
   numbered_at : (rs rest : List (List ℕ)) (n k : ℕ) → k < length rs
@@ -62,10 +62,10 @@ module _ (currency : Currency) (lo : List ℕ) (lo-long : length lo ≡ 94) wher
   numbered_at (r ∷ rs) rest n zero h = rw add-zero refl
   numbered_at (r ∷ rs) rest n (suc k) h = let e : suc n + k ≡ n + suc k = omega arith in numbered_at rs rest (suc n) k (omega arith) ∙ rw e refl
 
-  numbered-many : (rs : List (List ℕ)) (n : ℕ) → length (numbered_orders currency lo n rs) ≡ length rs
+  numbered_many : (rs : List (List ℕ)) (n : ℕ) → length (numbered_orders currency lo n rs) ≡ length rs
   unfolding numbered_orders
-  numbered-many [] n = refl
-  numbered-many (r ∷ rs) n = ap suc (numbered-many rs (suc n))
+  numbered_many [] n = refl
+  numbered_many (r ∷ rs) n = ap suc (numbered_many rs (suc n))
 
 pub tray_size : (currency : Currency) (lo file : List ℕ) → company_answer currency lo file ≡ accepted → length (company_tray currency lo file) ≡ tray_bytes file
 tray_size currency lo file good = tray_length currency lo file ((company_exactly currency lo file).0 good).body ∙ rw (details_count file) refl
@@ -86,13 +86,13 @@ module _ (currency : Currency) (lo file : List ℕ) (h : company_answer currency
   company_file_length =
       build_length header tray body (tray_sound currency lo file h).whole ∙ omega (arith, tray_size currency lo file h, tray_batches currency lo file h)
 
-  its-bodies : numbering 0 0 (bodies tray) ≡ numbered 1 lo ∷ numbered_orders currency lo 1 (details_of file)
+  its_bodies : numbering 0 0 (bodies tray) ≡ numbered 1 lo ∷ numbered_orders currency lo 1 (details_of file)
   unfolding numbering numbered_by batches_after individuals_after
-  its-bodies =
+  its_bodies =
       let orders : List (List ℕ) = map (drop 2) (map (marked_order currency lo) (details_of file)) in
       ap (λ (ts : List (List ℕ)). numbering 0 0 (map (drop 2) ts)) (tray_records_lem currency lo file h)
       ∙ ap (λ (k : Kind). numbered_by k 0 0 lo ∷ numbering (batches_after k 0) (individuals_after k 0) orders) (opens_batch_lem lo good.body good.opens)
-      ∙ ap (λ (os : List (List ℕ)). numbered 1 lo ∷ os) (orders-numbered currency lo good.body (details_of file) 1 0 (details_long file))
+      ∙ ap (λ (os : List (List ℕ)). numbered 1 lo ∷ os) (orders_numbered currency lo good.body (details_of file) 1 0 (details_long file))
 
   cut : (rest : List (List ℕ)) × (records_of built ≡ header ∷ numbered 1 lo ∷ (numbered_orders currency lo 1 (details_of file) ++ rest))
   unfolding build with_controls owed_before settled_before settled owed counted nothing_counted
@@ -102,10 +102,10 @@ module _ (currency : Currency) (lo file : List ℕ) (h : company_answer currency
       let first : List ℕ = numbered 1 lo in
       let os : List (List ℕ) = numbered_orders currency lo 1 (details_of file) in
       let k : kind_of first ≡ BatchHeader = kind_numbered 1 lo (omega (arith, good.body)) ∙ opens_batch_lem lo good.body good.opens in
-      let x = controls-behind currency lo good.body (details_of file) 1 (after_writing BatchHeader c first) (details_long file) in (
+      let x = controls_behind currency lo good.body (details_of file) 1 (after_writing BatchHeader c first) (details_long file) in (
         ending x.0,
         closing_records header (numbering 0 0 (bodies tray)) body z
-            ∙ ap (λ (rs : List (List ℕ)). header ∷ with_controls c rs) its-bodies
+            ∙ ap (λ (rs : List (List ℕ)). header ∷ with_controls c rs) its_bodies
             ∙ ap (λ (k : Kind). header ∷ (owed_before k c ++ first ∷ with_controls (after_writing k c first) os)) k
             ∙ ap (λ (t : List (List ℕ)). header ∷ first ∷ t) x.1,
       )
@@ -120,7 +120,7 @@ module _ (currency : Currency) (lo file : List ℕ) (h : company_answer currency
       let os : List (List ℕ) = numbered_orders currency lo 1 (details_of file) in
       let n : length (records_of built) ≡ suc (suc (length (os ++ cut.0))) = ap length cut.1 in
       let all : length (records_of built) ≡ detail_count file + 4 = length_parts 94 (length built / 94) built ∙ omega (arith, company_file_length) in
-      let many : length os ≡ detail_count file = numbered-many currency lo good.body (details_of file) 1 ∙ details_count file in
+      let many : length os ≡ detail_count file = numbered_many currency lo good.body (details_of file) 1 ∙ details_count file in
       (cut.0, cut.1, omega (arith, n, length-append os cut.0))
 
   -- the record two behind a detail's place is its order

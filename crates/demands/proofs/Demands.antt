@@ -192,7 +192,7 @@ own_records_only come came e same c d h k = subst₂ Equal (sym h) (sym k) (same
 
 -- "If two files pass the reading in one session with the same file header, and their batches that hold records to E have, in order, the same headers (numbers
 -- aside) and the same records to E with their additionals, E's extracts are equal byte for byte."
-module _ (s : Session) (e : ℕ) (f g : List ℕ) (passes : Reads s f Accepted) (passes-too : Reads s g Accepted) (same : SameTo e f g) where
+module _ (s : Session) (e : ℕ) (f g : List ℕ) (passes : Reads s f Accepted) (passes_too : Reads s g Accepted) (same : SameTo e f g) where
   -- whatever buffers were lent
   pub extracts_equal : (before before2 : List ℕ) (r q : Output) (after after2 : List ℕ) → Extracts s e f before r after → Extracts s e g before2 q after2
       → {n m : ℕ} → r ≡ output.Accepted n → q ≡ output.Accepted m → handed r after ≡ handed q after2
@@ -203,12 +203,12 @@ module _ (s : Session) (e : ℕ) (f g : List ℕ) (passes : Reads s f Accepted) 
       → (before before2 : List ℕ) → length f ≤ length before → length g ≤ length before2
       → (r q : Output) (after after2 : List ℕ) → Extracts s e f before r after → Extracts s e g before2 q after2
       → (r ≡ output.Accepted (length (handed r after))) × (q ≡ r) × (handed q after2 ≡ handed r after)
-  extracts_written = extracts.extracts_written s e f g same (sym passes) (sym passes-too)
+  extracts_written = extracts.extracts_written s e f g same (sym passes) (sym passes_too)
 
   -- lent the same buffer, the answer is the same too, and so is every byte of the buffer after it
   pub extracts_alike : (before : List ℕ) (r q : Output) (after after2 : List ℕ) → Extracts s e f before r after → Extracts s e g before q after2
       → (r ≡ q) × (after ≡ after2)
-  extracts_alike = extracts.extracts_alike s e f g same (sym passes) (sym passes-too)
+  extracts_alike = extracts.extracts_alike s e f g same (sym passes) (sym passes_too)
 
 -- "The answer to a presentation depends on that file, the session's date, currency and roster, and the identifiers already accepted from that file's origin."
 pub answer_depends : {s t : Session} {fs gs : List (List ℕ)} → Came s fs → Came t gs → (file : List ℕ) → rules_of s ≡ rules_of t

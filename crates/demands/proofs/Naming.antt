@@ -116,19 +116,19 @@ module _ (s : Session) (header tray before : List ℕ) where
   not_built (inr (inl x)) = rw (x.0, x.3) (too_long header tray before x.1 x.2)
   not_built (inr (inr x)) = rw (x.0, x.4) (no_room header tray before x.1 x.2 x.3)
 
-  build-faulty : {n place : ℕ} → (answer_to_build s header tray before ≡ refused n place) ↔ BuildFaulty s header tray before n place
+  build_faulty : {n place : ℕ} → (answer_to_build s header tray before ≡ refused n place) ↔ BuildFaulty s header tray before n place
   unfolding buildable and_then
-  build-faulty {n} {place} = ((λ h. there (first_refusal (buildable header tray before) (reading (rules_of s) file) h)), back)
+  build_faulty {n} {place} = ((λ h. there (first_refusal (buildable header tray before) (reading (rules_of s) file) h)), back)
     where
       there : (buildable header tray before ≡ refused n place) ⊎ ((buildable header tray before ≡ accepted) × (reading (rules_of s) file ≡ refused n place))
           → BuildFaulty s header tray before n place
       there (inl x) = inl (refuses header tray before x)
       there (inr x) =
           let f = built_fits header tray before x.0 in
-          inr (tray-taken x.0, f.2, f.3, (refused_exactly (rules_of s) file).0 x.1)
+          inr (tray_taken x.0, f.2, f.3, (refused_exactly (rules_of s) file).0 x.1)
         where
-          tray-taken : buildable header tray before ≡ accepted → tray_answer header tray ≡ accepted
-          tray-taken h = (both_accept (tray_answer header tray) _ h).0
+          tray_taken : buildable header tray before ≡ accepted → tray_answer header tray ≡ accepted
+          tray_taken h = (both_accept (tray_answer header tray) _ h).0
 
       back : BuildFaulty s header tray before n place → answer_to_build s header tray before ≡ refused n place
       back (inl x) = rw (not_built x) refl
@@ -136,4 +136,4 @@ module _ (s : Session) (header tray before : List ℕ) where
 
   pub build_named : (r : Output) (after : List ℕ) → Builds s header tray before r after → (fault : Fault) (place : ℕ)
       → (r ≡ Refused fault place) ↔ BuildFaulty s header tray before (number_of fault) place
-  build_named r after h fault place = refused_as r after (build_answer s header tray before r after h) fault place build-faulty
+  build_named r after h fault place = refused_as r after (build_answer s header tray before r after h) fault place build_faulty

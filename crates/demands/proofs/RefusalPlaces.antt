@@ -74,9 +74,9 @@ stripping_stands s file before = read_then_room file s (strip file) before
 
 module _ (file : List ℕ) where
   -- 207 and 214 are no numbers of the reading
-  read-shows : (rules : ReadingRules) → ShowStandsAt file (reading_by rules file)
+  read_shows : (rules : ReadingRules) → ShowStandsAt file (reading_by rules file)
   unfolding among every
-  read-shows rules = go (reading_by rules file) refl (stands_by rules file)
+  read_shows rules = go (reading_by rules file) refl (stands_by rules file)
     where
       tied : (n place : ℕ) → T (among record_numbers n) → (b c : Bool) → among untied n ≡ b → among (207 ∷ 214 ∷ untied) n ≡ c → StandsIf b file n place → StandsIf c file n place
       tied n place t b true p q x = absurd (not_in_both record_numbers (207 ∷ 214 ∷ untied) tt n t (T_of q))
@@ -90,10 +90,10 @@ module _ (file : List ℕ) where
           (λ t. tied n place t (among untied n) (among (207 ∷ 214 ∷ untied) n) refl refl x)
           (number_by rules file e)
 
-  required-shows : (b : Bool) (n : ℕ) → among (207 ∷ 214 ∷ untied) n ≡ true → ShowStandsAt file (require b n 0)
+  required_shows : (b : Bool) (n : ℕ) → among (207 ∷ 214 ∷ untied) n ≡ true → ShowStandsAt file (require b n 0)
   unfolding require
-  required-shows true n u = tt
-  required-shows false n u = rw u refl
+  required_shows true n u = tt
+  required_shows false n u = rw u refl
 
   module _ (s : Session) (e : ℕ) (motives : List ℕ) where
     pub asking_stands : ShowStandsAt file (showable (rules_of s) e file motives)
@@ -101,19 +101,19 @@ module _ (file : List ℕ) where
     asking_stands =
         let stands : Said → Type 0 = ShowStandsAt file in
         both_stand stands (entity_given (rules_of s) e) _ tt
-        (required-shows (within 1 499 e && get_or s.roster e false) 208 refl)
-        (both_stand stands (require (motives_good motives) 207 0) _ tt (required-shows (motives_good motives) 207 refl) (read-shows (at_desk e (rules_of s))))
+        (required_shows (within 1 499 e && get_or s.roster e false) 208 refl)
+        (both_stand stands (require (motives_good motives) 207 0) _ tt (required_shows (motives_good motives) 207 refl) (read_shows (at_desk e (rules_of s))))
 
     pub showing_stands : (place : ℕ) → ShowStandsAt file (and_then (showable (rules_of s) e file motives) (require (explains_at file place) 214 0))
     unfolding among
     showing_stands place =
-        both_stand (ShowStandsAt file) (showable (rules_of s) e file motives) _ tt asking_stands (required-shows (explains_at file place) 214 refl)
+        both_stand (ShowStandsAt file) (showable (rules_of s) e file motives) _ tt asking_stands (required_shows (explains_at file place) 214 refl)
 
 -- ---- building
 
 module _ (header tray : List ℕ) where
-  tray-stands : BuildStandsAt header tray (tray_answer header tray)
-  tray-stands = go (tray_answer header tray) refl
+  tray_stands : BuildStandsAt header tray (tray_answer header tray)
+  tray_stands = go (tray_answer header tray) refl
     where
       there : {place : ℕ} → TrayBad header tray place → (place ≡ 0) ⊎ (place < length tray / 96)
       there (inl x) = inl x.1
@@ -124,9 +124,9 @@ module _ (header tray : List ℕ) where
       go (refused n place) e = let x = tray_named header tray e in rw x.0 (there x.1)
 
   -- the file that would be built is read, and no record of a file is 207
-  read-stands : (s : Session) → BuildStandsAt header tray (reading (rules_of s) (build header tray))
+  read_stands : (s : Session) → BuildStandsAt header tray (reading (rules_of s) (build header tray))
   unfolding among
-  read-stands s = go (reading (rules_of s) (build header tray)) refl
+  read_stands s = go (reading (rules_of s) (build header tray)) refl
     where
       no-207 : {n : ℕ} → n ≡ 207 → {place : ℕ} → reading (rules_of s) (build header tray) ≡ refused n place → ⊥
       no-207 q h = ⊎_elim (λ x. omega (arith, x.1, q)) (λ t. subst (λ (m : ℕ). T (among record_numbers m)) q t) (reading_number (rules_of s) (build header tray) h)
@@ -144,11 +144,11 @@ module _ (header tray : List ℕ) where
   building_stands s before =
       let stands : Said → Type 0 = BuildStandsAt header tray in
       both_stand stands (buildable header tray before) (reading (rules_of s) (build header tray)) tt
-      (both_stand stands (tray_answer header tray) _ tt tray-stands
+      (both_stand stands (tray_answer header tray) _ tt tray_stands
       (both_stand stands (require (length_good (length (build header tray))) 201 0) _ tt
       (short (length_good (length (build header tray))) 201 refl refl)
       (short (leb (length (build header tray)) (length before)) 206 refl refl)))
-      (read-stands s)
+      (read_stands s)
     where
       short : (b : Bool) (n : ℕ) → eqb n 207 ≡ false → among untied n ≡ true → BuildStandsAt header tray (require b n 0)
       short true n e u = tt

@@ -111,9 +111,9 @@ module _ (s : Session) (file before : List ℕ) (r : Output) (after : List ℕ) 
   the-tray : handed r after ≡ strip file
   the-tray = (strip_held s file before r after h p).0
 
-  returned-file : AsBuilt 0 0 (records_of file) → told q later ≡ written accepted file other
+  returned_file : AsBuilt 0 0 (records_of file) → told q later ≡ written accepted file other
   unfolding written
-  returned-file b =
+  returned_file b =
       k
       ∙ ap₂ (λ (rules : Rules) (x : List ℕ). building rules (take 94 file) x other) same the-tray
       ∙ build_stripped (rules_of s) file other reads b room
@@ -122,8 +122,8 @@ module _ (s : Session) (file before : List ℕ) (r : Output) (after : List ℕ) 
   -- (not so with a build that numbers each batch's individuals from 1, or a strip that leaves out additional records)
   pub stripped_comes_back : AsBuilt 0 0 (records_of file) → (q ≡ Accepted (length file)) × (handed q later ≡ file) × (drop (length file) later ≡ drop (length file) other)
   stripped_comes_back b =
-      let e = numbers accepted file other q later (returned-file b) refl in
-      let x = held accepted file other q later (returned-file b) e in
+      let e = numbers accepted file other q later (returned_file b) refl in
+      let x = held accepted file other q later (returned_file b) e in
       (e, x.0, x.2)
 
   -- "exactly when it is numbered this way and its free control positions are blank": no other file comes back

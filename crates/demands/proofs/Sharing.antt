@@ -31,19 +31,19 @@ module _ (s : Session) (file : List ℕ) (before after : ℕ → List ℕ) (r : 
       (extract_held s e file (before e) (r e) (after e) (calls e) accepts).0
 
   -- who is not on the roster is refused, by 208
-  nothing-got : (e : ℕ) → (T (within 1 499 e) → T (get_or s.roster e false) → ⊥) → items_of (handed (r e) (after e)) ≡ []
+  nothing_got : (e : ℕ) → (T (within 1 499 e) → T (get_or s.roster e false) → ⊥) → items_of (handed (r e) (after e)) ≡ []
   unfolding handed items_of items_in batches_of grouped records_of parts
-  nothing-got e none = go (r e) refl
+  nothing_got e none = go (r e) refl
     where
       go : (q : Output) → r e ≡ q → items_of (handed q (after e)) ≡ []
       go (Accepted n) p = let x = (extract_exactly s e file (before e) (r e) (after e) (calls e)).1 n p in absurd (none x.entity x.listed)
       go (Refused fault place) p = refl
 
-  in-hand : (e : ℕ) → items_of (extract s.currency e file) ≡ items_of (handed (r e) (after e))
-  in-hand e = go (within 1 499 e) (get_or s.roster e false) refl refl
+  in_hand : (e : ℕ) → items_of (extract s.currency e file) ≡ items_of (handed (r e) (after e))
+  in_hand e = go (within 1 499 e) (get_or s.roster e false) refl refl
     where
       nobody : (T (within 1 499 e) → T (get_or s.roster e false) → ⊥) → items_of (extract s.currency e file) ≡ items_of (handed (r e) (after e))
-      nobody none = nobody_gets (paper-shared.shared_out (rules_of s) file reads) e none ∙ sym (nothing-got e none)
+      nobody none = nobody_gets (paper-shared.shared_out (rules_of s) file reads) e none ∙ sym (nothing_got e none)
 
       go : (a b : Bool) → within 1 499 e ≡ a → get_or s.roster e false ≡ b → items_of (extract s.currency e file) ≡ items_of (handed (r e) (after e))
       go true true p q = ap items_of (sym (got e (T_of p) (T_of q)))
@@ -53,7 +53,7 @@ module _ (s : Session) (file : List ℕ) (before after : ℕ → List ℕ) (r : 
   -- each individual record with its additional stands in exactly one entity's extract, its addressee's, in the file's order
   -- (not so with an extract that is always empty, or one that shows a record to its sender too)
   pub shared_out : SharedOut s.roster (items_of file) (λ e. items_of (handed (r e) (after e)))
-  shared_out = same_hands in-hand (paper-shared.shared_out (rules_of s) file reads)
+  shared_out = same_hands in_hand (paper-shared.shared_out (rules_of s) file reads)
 
   -- and no individual or additional record stands in an extract beside these
   pub nothing_beside : (e : ℕ) → T (within 1 499 e) → T (get_or s.roster e false)

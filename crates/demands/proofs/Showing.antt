@@ -128,10 +128,10 @@ module _ (s : Session) (e : ℕ) (file motives : List ℕ) (place : ℕ) where
   abbrev answer_to : Said
   answer_to = and_then (showable (rules_of s) e file motives) (require (explains_at file place) 214 0)
 
-  in-turn : answer_to
+  in_turn : answer_to
       ≡ and_then (entity_given (rules_of s) e) (and_then (require (motives_good motives) 207 0) (and_then (reading_by (at_desk e (rules_of s)) file) (require (explains_at file place) 214 0)))
   unfolding showable
-  in-turn = and_then_assoc (entity_given (rules_of s) e) _ _ ∙ ap (and_then (entity_given (rules_of s) e)) (and_then_assoc (require (motives_good motives) 207 0) _ _)
+  in_turn = and_then_assoc (entity_given (rules_of s) e) _ _ ∙ ap (and_then (entity_given (rules_of s) e)) (and_then_assoc (require (motives_good motives) 207 0) _ _)
 
   all_asked : (answer_to ≡ accepted) ↔ (Receivable s e file × (length motives ≡ 4400) × (explains_at file place ≡ true))
   unfolding and_then require
@@ -163,7 +163,7 @@ module _ (s : Session) (e : ℕ) (file motives : List ℕ) (place : ℕ) where
         let faults : ℕ → ℕ → Type 0 = FaultyOrNoReason (at_desk e (rules_of s)) file place in
         let exactly = unless (within 1 499 e && get_or s.roster e false) 208 (Unless (motives_good motives) 207 faults) _
         (unless (motives_good motives) 207 faults _ (read_then (at_desk e (rules_of s)) file (explains_at file place) 214)) in
-        let x = said_as (answer_of r) (answer.Refused fault at) (answer_said r ∙ answers ∙ in-turn) exactly in
+        let x = said_as (answer_of r) (answer.Refused fault at) (answer_said r ∙ answers ∙ in_turn) exactly in
         let y = shown_refused r fault at in
         ((λ p. x.0 (y.0 p)), λ f. y.1 (x.1 f))
 

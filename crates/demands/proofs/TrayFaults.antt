@@ -74,9 +74,9 @@ module _ (header tray : List ℕ) where
       go false p e = inl (eqb-false (length header) 94 p)
       go true p e = inr (eqb-false (length tray % 96) 0 e)
 
-  no-shape : Misshapen header tray → shape ≡ false
-  no-shape (inl m) = rw (ne_eqb (length header) 94 m) refl
-  no-shape (inr m) = rw (ne_eqb (length tray % 96) 0 m) (and-false (eqb (length header) 94))
+  no_shape : Misshapen header tray → shape ≡ false
+  no_shape (inl m) = rw (ne_eqb (length header) 94 m) refl
+  no_shape (inr m) = rw (ne_eqb (length tray % 96) 0 m) (and-false (eqb (length header) 94))
 
   pub tray_named : {n place : ℕ} → tray_answer header tray ≡ refused n place → (n ≡ 207) × TrayBad header tray place
   unfolding tray_answer
@@ -92,10 +92,10 @@ module _ (header tray : List ℕ) where
           let f = found tray header body whole (length tray / 96) 0 (omega arith) (λ k l. absurd (omega arith)) x.1 in
           (f.0, inr f.1)
 
-  tray-refused : {place : ℕ} → TrayBad header tray place → tray_answer header tray ≡ refused 207 place
+  tray_refused : {place : ℕ} → TrayBad header tray place → tray_answer header tray ≡ refused 207 place
   unfolding tray_answer tray_record_at and_then require
-  tray-refused (inl x) = rw (no-shape x.0, x.1) refl
-  tray-refused {place} (inr x) = rw (x.body, x.whole) (passed tray place (omega (arith, x.there)) x.first ∙ stops tray place x.there x.bad)
+  tray_refused (inl x) = rw (no_shape x.0, x.1) refl
+  tray_refused {place} (inr x) = rw (x.body, x.whole) (passed tray place (omega (arith, x.there)) x.first ∙ stops tray place x.there x.bad)
 
 -- ---- then the length and the room
 
@@ -105,7 +105,7 @@ module _ (header tray before : List ℕ) where
 
   pub bad_tray : {place : ℕ} → TrayBad header tray place → buildable header tray before ≡ refused 207 place
   unfolding buildable and_then
-  bad_tray b = rw (tray-refused header tray b) refl
+  bad_tray b = rw (tray_refused header tray b) refl
 
   pub too_long : tray_answer header tray ≡ accepted → 940000 < length (build header tray) → buildable header tray before ≡ refused 201 0
   unfolding and_then require

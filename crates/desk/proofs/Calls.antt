@@ -12,11 +12,11 @@ use Rattle.paper.proofs.Room.{cells_touched}
 use Rattle.paper.proofs.Totals.{sums_touched}
 use Rattle.desk.specs.declared.Session.{Session}
 use Rattle.desk.specs.Standing.{standing}
-use Rattle.desk.specs.Calls.{Came, by-opening, by-presenting, Reachable}
+use Rattle.desk.specs.Calls.{Came, by_opening, by_presenting, Reachable}
 
 pub in_paper : {s : Session} {files : List (List ℕ)} → Came s files → calls.Arose (standing s) files
-in_paper (by-opening date currency entities r h) = subst (λ (x : paper.Reply). calls.Arose x.session []) (sym h) (calls.opened date currency entities)
-in_paper (by-presenting {s} {files} c file r h) =
+in_paper (by_opening date currency entities r h) = subst (λ (x : paper.Reply). calls.Arose x.session []) (sym h) (calls.opened date currency entities)
+in_paper (by_presenting {s} {files} c file r h) =
     subst (λ (x : paper.Reply). calls.Arose x.session (with_accepted x.answer files file)) (sym h) (calls.presented (in_paper c) file)
 
 -- from the one premise: no figure of a cell, nor of a sum over cells, comes near 64 bits

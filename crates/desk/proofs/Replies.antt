@@ -24,7 +24,7 @@ use Rattle.desk.specs.declared.Session.{Session}
 use Rattle.desk.specs.declared.Reply.{Reply}
 use Rattle.desk.specs.declared.rules.Opened.{Opened}
 use Rattle.desk.specs.Standing.{rules_listed, standing, holding_zeros, heard, keyed, key_if}
-use Rattle.desk.specs.Calls.{RulesOpened, OpensRules, by-opening, by-presenting, Reachable}
+use Rattle.desk.specs.Calls.{RulesOpened, OpensRules, by_opening, by_presenting, Reachable}
 use Rattle.desk.proofs.Keys.{key_accepted}
 
 abbrev pub reply : Said → paper.Session → paper.Reply
@@ -53,21 +53,21 @@ module _ (date : ℕ) (currency : Currency) (entities : List ℕ) where
   opens d e = rw (d, e)
 
   -- that session holds zeros
-  zeros-there : (a : Said) → opened_with a date currency entities ≡ holding_zeros (opened_with a date currency entities).rules
+  zeros_there : (a : Said) → opened_with a date currency entities ≡ holding_zeros (opened_with a date currency entities).rules
   unfolding opened_with new_session
-  zeros-there accepted = refl
-  zeros-there (refused n place) = refl
+  zeros_there accepted = refl
+  zeros_there (refused n place) = refl
 
   pub opened_whole : (r : Opened) {session : Session} → OpensRules date currency entities r → standing session ≡ holding_zeros r.rules
       → reply (said r.answer) (standing session) ≡ opening date currency entities
   unfolding opening
   opened_whole r h k =
-      let whole = zeros-there (opening_answer date entities) in
+      let whole = zeros_there (opening_answer date entities) in
       let rules = ap (λ (o : RulesOpened). o.rules) h in
       ap₂ reply (ap (λ (o : RulesOpened). o.answer) h) (k ∙ (ap holding_zeros rules ∙ sym whole))
 
   pub opened_so : (r : Reply) → heard r ≡ opening date currency entities → (heard r ≡ opening date currency entities) × Reachable r.session
-  opened_so r h = (h, record { files = []; came = by-opening date currency entities r h })
+  opened_so r h = (h, record { files = []; came = by_opening date currency entities r h })
 
 -- ---- presenting
 
@@ -104,4 +104,4 @@ module _ (s : paper.Session) (file : List ℕ) where
 
 pub presented_so : (s : Session) (file : List ℕ) → Reachable s → (r : Reply) → heard r ≡ presenting (standing s) file
     → (heard r ≡ presenting (standing s) file) × Reachable r.session
-presented_so s file c r h = (h, record { files = _; came = by-presenting c.came file r h })
+presented_so s file c r h = (h, record { files = _; came = by_presenting c.came file r h })

@@ -58,28 +58,28 @@ module _ (header tray before : List ℕ) (x : Output) (after : List ℕ)
         let e : take n after ≡ build header tray = ap (λ (y : Output). handed y after) (sym p) ∙ has.0 in
         (e, has.1, omega (arith, has.1, ap length e, length-take n after))
 
-    lent-part : mid_of 0 (n - 0) after ≡ build header tray
-    lent-part = let k : n - 0 ≡ n = omega arith in ap (λ (m : ℕ). take m after) k ∙ built_part.0
+    lent_part : mid_of 0 (n - 0) after ≡ build header tray
+    lent_part = let k : n - 0 ≡ n = omega arith in ap (λ (m : ℕ). take m after) k ∙ built_part.0
 
     -- the reading's answer on that part decides
     pub was_built : (rules : Rules) {a : Answer} → said a ≡ reading rules (mid_of 0 (n - 0) after) → a ≡ answer.Accepted → told (Accepted n) after ≡ building rules header tray before
     unfolding building built_if built_as
     was_built rules h e =
-        let r : reading rules (build header tray) ≡ accepted = ap (reading rules) (sym lent-part) ∙ sym h ∙ ap said e in
+        let r : reading rules (build header tray) ≡ accepted = ap (reading rules) (sym lent_part) ∙ sym h ∙ ap said e in
         ap (λ (y : Output). told y after) (sym p) ∙ w ∙ rw (tested, r) refl
 
     spaced : put_mid 0 (n - 0) after (blanks (length (mid_of 0 (n - 0) after))) ≡ over (blanks (length (build header tray))) before
     unfolding over blanks
     spaced =
         let k : n - 0 ≡ n = omega arith in
-        rw (lent-part, k, has.2, has.1, length-replicate {A = ℕ} (length (build header tray)) 32) refl
+        rw (lent_part, k, has.2, has.1, length-replicate {A = ℕ} (length (build header tray)) 32) refl
 
     -- refused by it, that part is all spaces
     pub not_read : (rules : Rules) {a : Answer} → said a ≡ reading rules (mid_of 0 (n - 0) after) → {fault : Fault} {place : ℕ} → a ≡ answer.Refused fault place
         → {part : List ℕ} → part ≡ blanks (length (mid_of 0 (n - 0) after))
         → {o : Outcome} → o ≡ record { answer = said a; size = 0; buffer = put_mid 0 (n - 0) after part } → o ≡ building rules header tray before
     not_read rules h {fault} {place} e b k =
-        let r : reading rules (build header tray) ≡ refused (number_of fault) place = ap (reading rules) (sym lent-part) ∙ sym h ∙ ap said e in
+        let r : reading rules (build header tray) ≡ refused (number_of fault) place = ap (reading rules) (sym lent_part) ∙ sym h ∙ ap said e in
         k
         ∙ ap₂ (λ (s : Said) (l : List ℕ). record { answer = s; size = 0; buffer = l }) (ap said e) (ap (put_mid 0 (n - 0) after) b ∙ spaced)
         ∙ sym (building_spaces rules header tray before tested r)

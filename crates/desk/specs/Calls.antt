@@ -79,8 +79,8 @@ HoldsAll s cells = cells ≡ s.cells
 
 -- a session that calls of the desk handed back, and the files accepted when presented, in order
 pub data Came : Session → List (List ℕ) → Type 0 where
-  by-opening : (date : ℕ) (currency : Currency) (entities : List ℕ) (r : Reply) → Opens date currency entities r → Came r.session []
-  by-presenting : {s : Session} {files : List (List ℕ)} → Came s files → (file : List ℕ) (r : Reply) → Presents s file r
+  by_opening : (date : ℕ) (currency : Currency) (entities : List ℕ) (r : Reply) → Opens date currency entities r → Came r.session []
+  by_presenting : {s : Session} {files : List (List ℕ)} → Came s files → (file : List ℕ) (r : Reply) → Presents s file r
       → Came r.session (with_accepted (said r.answer) files file)
 
 -- the one premise that a promise names

@@ -29,13 +29,13 @@ module _ (r : List ℕ) (l : length r ≡ 94) where
   -- positions 13 to 20 and 21 to 28, as words, and 29
   pub account_words : {front back : ℕ} → Packs (field r 13 20) front → Packs (field r 21 28) back → InWords (field r 16 29) front back (get_or r 28 0)
   account_words p q =
-      let first-eight = ap (take 8) (rest_of 16 20 21 29 5 (omega arith) refl refl) ∙ first_of r 21 29 8 28 (omega arith) (omega arith) refl in
+      let first_eight = ap (take 8) (rest_of 16 20 21 29 5 (omega arith) refl refl) ∙ first_of r 21 29 8 28 (omega arith) (omega arith) refl in
       record {
         long = part_length r 16 29 (omega arith);
         begin = field r 13 20;
         begins = p;
         first_five = rest_of 13 15 16 20 3 (omega arith) refl refl ∙ sym (first_of r 16 29 5 20 (omega arith) (omega arith) refl);
-        next_eight = rw first-eight q;
+        next_eight = rw first_eight q;
         last = sym (field_at r 16 29 29 (omega arith) (omega arith) (omega arith));
       }
 

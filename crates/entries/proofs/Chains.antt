@@ -101,9 +101,9 @@ module _ (r : List ℕ) where
   unfolding flag_rules need ◌also◌
   flag_zero e = rw e
 
-  flag-fine : flag_rules r ≡ fine → ((is (field r 79 79) "0" || is (field r 79 79) "1") ≡ true) × (flag_good r ≡ true)
+  flag_fine : flag_rules r ≡ fine → ((is (field r 79 79) "0" || is (field r 79 79) "1") ≡ true) × (flag_good r ≡ true)
   unfolding flag_rules need ◌also◌
-  flag-fine = go (is (field r 79 79) "0" || is (field r 79 79) "1") (flag_good r)
+  flag_fine = go (is (field r 79 79) "0" || is (field r 79 79) "1") (flag_good r)
     where
       go : (o f : Bool) → (need o 17 also need f 25) ≡ fine → (o ≡ true) × (f ≡ true)
       go true true m = (refl, refl)
@@ -136,21 +136,21 @@ module _ (header : List ℕ) (previous : ℕ) (r : List ℕ) where
       module _ (m : flag_rules r ≡ fine) where
         pub sequence_wrong : digits (field r 80 94) ≡ false → wrong 17 ≡ closing_rules header previous r
         unfolding closing_rules need ◌also◌
-        sequence_wrong h = let f = flag-fine r m in rw (b, i, f.0, f.1, h)
+        sequence_wrong h = let f = flag_fine r m in rw (b, i, f.0, f.1, h)
 
         module _ (d : digits (field r 80 94) ≡ true) where
           pub sender_wrong : same (field r 80 87) (field header 80 87) ≡ false → wrong 27 ≡ closing_rules header previous r
           unfolding closing_rules counter_good need ◌also◌
-          sender_wrong h = let f = flag-fine r m in rw (b, i, f.0, f.1, d, h)
+          sender_wrong h = let f = flag_fine r m in rw (b, i, f.0, f.1, d, h)
 
           module _ (s : same (field r 80 87) (field header 80 87) ≡ true) where
             pub counter_wrong : ltb previous (number (field r 88 94)) ≡ false → wrong 27 ≡ closing_rules header previous r
             unfolding closing_rules counter_good need ◌also◌
-            counter_wrong h = let f = flag-fine r m in rw (b, i, f.0, f.1, d, s, h)
+            counter_wrong h = let f = flag_fine r m in rw (b, i, f.0, f.1, d, s, h)
 
             pub closing_good_lem : ltb previous (number (field r 88 94)) ≡ true → fine ≡ closing_rules header previous r
             unfolding closing_rules counter_good need ◌also◌
-            closing_good_lem h = let f = flag-fine r m in rw (b, i, f.0, f.1, d, s, h)
+            closing_good_lem h = let f = flag_fine r m in rw (b, i, f.0, f.1, d, s, h)
 
 -- ---- the whole
 

@@ -114,9 +114,9 @@ module _ (header tray buffer : List ℕ) where
   abbrev most : ℕ
   most = length tray / 96 + 10000
 
-  buildable-at-most : AtMost most (buildable header tray buffer)
+  buildable_at_most : AtMost most (buildable header tray buffer)
   unfolding buildable tray_answer tray_records room_for
-  buildable-at-most =
+  buildable_at_most =
       let file = build header tray in
       let records : length (tray_records tray) ≡ length tray / 96 = length_parts 96 (length tray / 96) tray in
       let marks = tray_fault 0 (tray_records tray) in
@@ -128,9 +128,9 @@ module _ (header tray buffer : List ℕ) where
       (required_at_most most (length_good (length file)) 201 0 (omega arith))
       (required_at_most most (leb (length file) (length buffer)) 206 0 (omega arith)))
 
-  building-at-most : (rules : Rules) → AtMost most (building rules header tray buffer).answer
+  building_at_most : (rules : Rules) → AtMost most (building rules header tray buffer).answer
   unfolding building built_if built_as written
-  building-at-most rules = go (buildable header tray buffer) buildable-at-most
+  building_at_most rules = go (buildable header tray buffer) buildable_at_most
     where
       file : List ℕ
       file = build header tray
@@ -209,10 +209,10 @@ module _ (date : ℕ) (dollars : Bool) (entities : List ℕ) where
   abbrev pub Tells : Spoken → Type 0
   Tells s = OfOpening s ↔ ((opening date (currency_if dollars) entities).answer ≡ accepted → ⊥)
 
-  told-apart : {Lent : Type 0} (lent : Lent) (job : Session → Delivered Lent) → ((session : Session) → OfOpening (job session).spoken → ⊥)
+  told_apart : {Lent : Type 0} (lent : Lent) (job : Session → Delivered Lent) → ((session : Session) → OfOpening (job session).spoken → ⊥)
       → Tells (in_session date dollars entities lent job).spoken
   unfolding in_session opening opening_answer
-  told-apart lent job h =
+  told_apart lent job h =
       let opened = opening date (currency_if dollars) entities in
       after opened.answer lent (job opened.session)
       (both_stand Numbered (require (is_date date) 75 0) (require (every (within 1 499) entities) 208 0) tt
@@ -222,21 +222,21 @@ module _ (date : ℕ) (dollars : Bool) (entities : List ℕ) where
 
   pub reading_apart : (file : List ℕ) → Tells (read_of date dollars entities file).spoken
   unfolding read_of
-  reading_apart file = told-apart _ _ (λ s. own _ 10000 (reading s.rules file) (reading_at_most s.rules file) (omega arith))
+  reading_apart file = told_apart _ _ (λ s. own _ 10000 (reading s.rules file) (reading_at_most s.rules file) (omega arith))
 
   pub day_apart : (ends files : List ℕ) (lent : Day) → Tells (day_of date dollars entities ends files lent).spoken
   unfolding day_of
-  day_apart ends files lent = told-apart _ _ (λ s. own 0 0 accepted tt (omega arith))
+  day_apart ends files lent = told_apart _ _ (λ s. own 0 0 accepted tt (omega arith))
 
   pub listing_apart : (ends files buffer : List ℕ) → Tells (day_listed date dollars entities ends files buffer).spoken
   unfolding day_listed delivered_of written
-  listing_apart ends files buffer = told-apart _ _ (λ s. own _ 0 accepted tt (omega arith))
+  listing_apart ends files buffer = told_apart _ _ (λ s. own _ 0 accepted tt (omega arith))
 
   pub extracting_apart : (e : ℕ) (file buffer : List ℕ)
       → Tells (in_session date dollars entities buffer (λ (s : Session). delivered_of (extracting s.rules e file buffer))).spoken
   unfolding delivered_of extracting
   extracting_apart e file buffer =
-      told-apart buffer _
+      told_apart buffer _
       (λ s. let new = extract s.rules.currency e file in
       own _ 10000 _ (written_at_most 10000 _ new buffer (given_at_most s.rules e _ (read_then_room s.rules file new buffer))) (omega arith))
 
@@ -244,23 +244,23 @@ module _ (date : ℕ) (dollars : Bool) (entities : List ℕ) where
       → Tells (in_session date dollars entities buffer (λ (s : Session). delivered_of (stripping s.rules file buffer))).spoken
   unfolding delivered_of stripping
   stripping_apart file buffer =
-      told-apart buffer _ (λ s. own _ 10000 _ (written_at_most 10000 _ (strip file) buffer (read_then_room s.rules file (strip file) buffer)) (omega arith))
+      told_apart buffer _ (λ s. own _ 10000 _ (written_at_most 10000 _ (strip file) buffer (read_then_room s.rules file (strip file) buffer)) (omega arith))
 
   -- no tray of 64 bits has as many records
   pub building_apart : (header tray buffer : List ℕ) → length tray ≤ opening_place
       → Tells (in_session date dollars entities buffer (λ (s : Session). delivered_of (building s.rules header tray buffer))).spoken
   unfolding delivered_of
   building_apart header tray buffer l =
-      told-apart buffer _ (λ s. own _ _ _ (building-at-most header tray buffer s.rules) (omega arith))
+      told_apart buffer _ (λ s. own _ _ _ (building_at_most header tray buffer s.rules) (omega arith))
 
   pub receiving_apart : (e : ℕ) (file : List ℕ) → Tells (receive_of date dollars entities e file).spoken
   unfolding receive_of receiving
-  receiving_apart e file = told-apart _ _ (λ s. own _ 10000 _ (given_at_most s.rules e _ (by_at_most (at_desk e s.rules) file)) (omega arith))
+  receiving_apart e file = told_apart _ _ (λ s. own _ 10000 _ (given_at_most s.rules e _ (by_at_most (at_desk e s.rules) file)) (omega arith))
 
   pub showing_apart : (e : ℕ) (file motives : List ℕ) (place : ℕ) → Tells (show_of date dollars entities e file motives place).spoken
   unfolding show_of shown_of showing
   showing_apart e file motives place =
-      told-apart _ _
+      told_apart _ _
       (λ s. own _ 10000 _
       (shown_at_most 10000 _ (text_at file place)
       (both_stand (AtMost 10000) (showable s.rules e file motives) _ tt
@@ -270,4 +270,4 @@ module _ (date : ℕ) (dollars : Bool) (entities : List ℕ) where
 
   pub reasons_apart : (e : ℕ) (file motives texts : List ℕ) → Tells (reasons_of date dollars entities e file motives texts).spoken
   unfolding reasons_of reasons_in
-  reasons_apart e file motives texts = told-apart _ _ (λ s. own _ 10000 _ (showable_at_most s.rules e file motives) (omega arith))
+  reasons_apart e file motives texts = told_apart _ _ (λ s. own _ 10000 _ (showable_at_most s.rules e file motives) (omega arith))

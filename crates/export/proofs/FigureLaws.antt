@@ -28,30 +28,30 @@ module _ (cells : List Cell) where
   abbrev flat : List (Cell → ℤ) → List ℤ
   flat = flat_map (λ (figure : Cell → ℤ). map figure cells)
 
-  flat-length : (named : List (Cell → ℤ)) → length (flat named) ≡ length named * length cells
+  flat_length : (named : List (Cell → ℤ)) → length (flat named) ≡ length named * length cells
   unfolding flat_map
-  flat-length [] = omega arith
-  flat-length (figure ∷ named) = simp (length-append, length-map, flat-length named) (omega arith)
+  flat_length [] = omega arith
+  flat_length (figure ∷ named) = simp (length-append, length-map, flat_length named) (omega arith)
 
-  flat-at : (named : List (Cell → ℤ)) (f e : ℕ) → f < length named → e < length cells
+  flat_at : (named : List (Cell → ℤ)) (f e : ℕ) → f < length named → e < length cells
       → get_or (flat named) (f * length cells + e) (pos 0) ≡ get_or named f (λ (c : Cell). pos 0) (get_or cells e zero_cell)
   unfolding flat_map
-  flat-at [] f e h l = absurd (omega arith)
-  flat-at (figure ∷ named) zero e h l =
+  flat_at [] f e h l = absurd (omega arith)
+  flat_at (figure ∷ named) zero e h l =
       let first : 0 * length cells + e ≡ e = omega arith in
       rw (first, get_or-append (map figure cells) (flat named) (pos 0) e (rw length-map l)) (one_figure figure cells e (pos 0) l)
-  flat-at (figure ∷ named) (suc f) e h l =
+  flat_at (figure ∷ named) (suc f) e h l =
       let further : suc f * length cells + e ≡ length (map figure cells) + (f * length cells + e) = rw length-map (omega arith) in
-      rw (further, get_or-append-add) (flat-at named f e (omega arith) l)
+      rw (further, get_or-append-add) (flat_at named f e (omega arith) l)
 
   pub figures_length : length (figures_of cells) ≡ length named_figures * length cells
   unfolding figures_of
-  figures_length = flat-length named_figures
+  figures_length = flat_length named_figures
 
   -- figure f of entity e stands at f * 500 + e
   pub figure_at : (f e : ℕ) → f < length named_figures → e < length cells → get_or (figures_of cells) (f * length cells + e) (pos 0) ≡ figure_of f (get_or cells e zero_cell)
   unfolding figures_of figure_of
-  figure_at f e h l = flat-at named_figures f e h l
+  figure_at f e h l = flat_at named_figures f e h l
 
   pub at_index : (i : ℕ) → length cells ≡ 500 → i < 1500 → get_or (figures_of cells) i (pos 0) ≡ figure_of (i / 500) (get_or cells (i % 500) zero_cell)
   at_index i e l =

@@ -34,17 +34,17 @@ module _ {Lent : Type 0} (date : ℕ) (dollars : Bool) (entities : List ℕ) (le
   abbrev job : Session → Delivered Lent
   job session = by session.rules
 
-  answer-there : (opening date (currency_if dollars) entities).answer ≡ said opened.answer
-  answer-there = rw (← asked) (sym (ap (λ (o : RulesOpened). o.answer) opens))
+  answer_there : (opening date (currency_if dollars) entities).answer ≡ said opened.answer
+  answer_there = rw (← asked) (sym (ap (λ (o : RulesOpened). o.answer) opens))
 
-  rules-there : (opening date (currency_if dollars) entities).session.rules ≡ opened.rules
-  rules-there = rw (← asked) (sym (ap (λ (o : RulesOpened). o.rules) opens))
+  rules_there : (opening date (currency_if dollars) entities).session.rules ≡ opened.rules
+  rules_there = rw (← asked) (sym (ap (λ (o : RulesOpened). o.rules) opens))
 
   pub rules_refused : {fault : Fault} {place : ℕ} {spoken : Spoken} → opened.answer ≡ Refused fault place → spoken ≡ not_opened (number_of fault)
       → in_session date dollars entities lent job ≡ record { spoken = spoken; lent = lent }
   unfolding in_session after_opening
-  rules_refused e s = rw (s, answer-there, e)
+  rules_refused e s = rw (s, answer_there, e)
 
   pub done_by_rules : opened.answer ≡ Accepted → in_session date dollars entities lent job ≡ by opened.rules
   unfolding in_session after_opening
-  done_by_rules e = rw (answer-there, e, rules-there)
+  done_by_rules e = rw (answer_there, e, rules_there)

@@ -87,19 +87,19 @@ module _ (number : ℕ) {file places before head rec : List ℕ} (asked : ToCopy
     own : Batched (own_of (chosen file (drop 1 places))) (own_of (chosen file (drop 1 places))) (mid_of 94 (length (head ++ drop 94 before) - 94) (head ++ drop 94 before)) copied n t
     own = rw (rest_of 1 places) at o
 
-    rest-sized : Sized 94 (own_of (chosen file (drop 1 places)))
-    rest-sized = own_sized (chosen file (drop 1 places)) (chosen_sized file (drop 1 places) (placed_rest file places 1 asked.placed))
+    rest_sized : Sized 94 (own_of (chosen file (drop 1 places)))
+    rest_sized = own_sized (chosen file (drop 1 places)) (chosen_sized file (drop 1 places) (placed_rest file places 1 asked.placed))
 
     -- at most 10,000 of them
     pub rest_few : n ≤ 10000
     rest_few = omega (arith, own.count, own_fewer (chosen file (drop 1 places)), length_chosen file (drop 1 places), length-drop 1 places, asked.few)
 
     pub control_fits : (n + 1) * 94 + 94 ≤ length (put_mid 94 (length (head ++ drop 94 before) - 94) (head ++ drop 94 before) copied)
-    control_fits = control_room before number rec long h rest-sized asked.room own
+    control_fits = control_room before number rec long h rest_sized asked.room own
 
     pub batch_whole : {control : List ℕ} → control ≡ batch_control_of (numbered number rec) t
         → Batched (block number (record_at file (get_or places 0 0)) (own_of (chosen file (drop 1 places)))) (own_of (chosen file (drop 1 places))) before
         (put_mid ((n + 1) * 94) ((n + 1) * 94 + 94 - (n + 1) * 94) (put_mid 94 (length (head ++ drop 94 before) - 94) (head ++ drop 94 before) copied) control) n t
     batch_whole c =
-        let laid = batch_laid before number rec long h rest-sized asked.room own c in
+        let laid = batch_laid before number rec long h rest_sized asked.room own c in
         rw (← q) laid

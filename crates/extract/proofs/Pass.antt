@@ -16,7 +16,7 @@ use Rattle.paper.specs.Records.{ReadingRules, in_house}
 use Rattle.paper.specs.Reading.{State, start, before_next, next, parts, records_of, reading, record_at}
 use Rattle.paper.specs.Extract.{Item, Batch, Groups, prepended, grouped, batches_of, is_to, items_to, holding, batches_to, item_records}
 use Rattle.paper.specs.Demands.{Faultless}
-use Rattle.paper.proofs.Accepted.{Follows, file-begins, batch-opens, file-ends, first-individual, its-additional, next_individual, batch-closes, judged_facts, first_header, after_last, accepted_facts}
+use Rattle.paper.proofs.Accepted.{Follows, file_begins, batch_opens, file_ends, first_individual, its_additional, next_individual, batch_closes, judged_facts, first_header, after_last, accepted_facts}
 use Rattle.paper.proofs.Lists.{length_parts}
 use Rattle.paper.proofs.Places.{parts_from}
 use Rattle.picking.specs.Notes.{Notes, Stage, passing, going, is_going, waiting, notes_by, notes_with, notes_after, goes_to, headers_to}
@@ -116,13 +116,13 @@ none_before rules s [] e h = refl
 none_before rules s (r ∷ rs) e h = go Between (kind_of r) (rw e at (judged_facts rules s r h.0).order) refl refl
   where
     go : (b : Before) (k : Kind) → Follows b k → b ≡ Between → kind_of r ≡ k → (prepended (kind_of r) r (grouped rs)).items ≡ []
-    go b k file-begins x q = cc
-    go b k batch-opens x q = rw q refl
-    go b k first-individual x q = cc
+    go b k file_begins x q = cc
+    go b k batch_opens x q = rw q refl
+    go b k first_individual x q = cc
     go b k next_individual x q = cc
-    go b k its-additional x q = cc
-    go b k batch-closes x q = cc
-    go b k file-ends x q = rw (q, after_last rules (next s r) rs (ap (λ (y : Kind). before_next y r) q) h.1) refl
+    go b k its_additional x q = cc
+    go b k batch_closes x q = cc
+    go b k file_ends x q = rw (q, after_last rules (next s r) rs (ap (λ (y : Kind). before_next y r) q) h.1) refl
 
 no_items_first : (rules : Rules) (file : List ℕ) → reading rules file ≡ accepted → (grouped (records_of file)).items ≡ []
 unfolding grouped prepended next before_next

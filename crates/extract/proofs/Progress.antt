@@ -90,24 +90,24 @@ module _ {currency : Currency} {e : ℕ} {file places buffer : List ℕ} (t : To
         }
 
 module _ {e : ℕ} {file places before after : List ℕ} {at number : ℕ} {closed : Tally} {i : ℕ} (p : Progress e file places before after at number closed i) where
-  few-places : length places ≤ 10000
-  few-places = rw p.picked (omega (arith, goes_few e file, (accepted_facts p.passed.rules file p.passed.accepts).short))
+  few_places : length places ≤ 10000
+  few_places = rw p.picked (omega (arith, goes_few e file, (accepted_facts p.passed.rules file p.passed.accepts).short))
 
-  blocks-left : length (blocks_to e file) ≡ length p.text + length (joined (blocks_from (at / 94) number closed p.rest))
-  blocks-left = ap length p.all ∙ length-append p.text _
+  blocks_left : length (blocks_to e file) ≡ length p.text + length (joined (blocks_from (at / 94) number closed p.rest))
+  blocks_left = ap length p.all ∙ length-append p.text _
 
   as_long : length after ≡ length before
-  as_long = kept p.wrote (omega (arith, p.wrote.next, p.room, blocks-left))
+  as_long = kept p.wrote (omega (arith, p.wrote.next, p.room, blocks_left))
 
   pub start_room : at ≤ length after
-  start_room = omega (arith, as_long, p.wrote.next, p.room, blocks-left)
+  start_room = omega (arith, as_long, p.wrote.next, p.room, blocks_left)
 
   pub closed_below : Below (10 ^ 18) closed
-  closed_below = below_more _ (omega (arith, p.inside, few-places)) p.below
+  closed_below = below_more _ (omega (arith, p.inside, few_places)) p.below
 
   -- no index leaves the file or the places
   pub indexes_few : (at ≤ 1880094) × (number ≤ 10000) × (i ≤ 10000)
-  indexes_few = (omega (arith, p.bounded, p.inside, few-places), omega (arith, p.few, p.inside, few-places), omega (arith, p.inside, few-places))
+  indexes_few = (omega (arith, p.bounded, p.inside, few_places), omega (arith, p.few, p.inside, few_places), omega (arith, p.inside, few_places))
 
   -- one batch further
   module _ (l : i < length places) where
@@ -121,14 +121,14 @@ module _ {e : ℕ} {file places before after : List ℕ} {at number : ℕ} {clos
     abbrev first : List (List ℕ)
     first = block (number + 1) (record_at file (get_or (drop i places) 0 0)) own
 
-    here-good : BatchesGood (next.batch ∷ next.others)
-    here-good = rw next.these at p.good
+    here_good : BatchesGood (next.batch ∷ next.others)
+    here_good = rw next.these at p.good
 
-    own-whole : Sized 94 own
-    own-whole = rw next.own (items_sized next.batch.items here-good.1)
+    own_whole : Sized 94 own
+    own_whole = rw next.own (items_sized next.batch.items here_good.1)
 
-    first-length : length (joined first) ≡ (length own + 2) * 94
-    first-length = length_block (number + 1) (record_at file (get_or (drop i places) 0 0)) own (rw next.header here-good.0.1) own-whole
+    first_length : length (joined first) ≡ (length own + 2) * 94
+    first_length = length_block (number + 1) (record_at file (get_or (drop i places) 0 0)) own (rw next.header here_good.0.1) own_whole
 
     -- what comes after it
     abbrev others : List (List ℕ)
@@ -142,14 +142,14 @@ module _ {e : ℕ} {file places before after : List ℕ} {at number : ℕ} {clos
         ∙ first_block (at / 94) number closed next.batch next.others next.header next.own)
         ∙ sym (append_assoc p.text (joined first) (joined others))
 
-    blocks-length : length (blocks_to e file) ≡ length p.text + length (joined first) + length (joined others)
-    blocks-length = ap length split ∙ length-append (p.text ++ joined first) (joined others) ∙ omega (arith, length-append p.text (joined first))
+    blocks_length : length (blocks_to e file) ≡ length p.text + length (joined first) + length (joined others)
+    blocks_length = ap length split ∙ length-append (p.text ++ joined first) (joined others) ∙ omega (arith, length-append p.text (joined first))
 
     own_inside : i + (length own + 1) ≤ length places
     own_inside = omega (arith, own_fewer (chosen file (drop 1 (drop i places))), length_chosen file (drop 1 (drop i places)), length-drop 1 (drop i places), length-drop i places)
 
     own_below : Below (length own * 10 ^ 10) (tallied zeros own)
-    own_below = below_more _ (omega arith) (tallied_below zeros own own-whole (below_zeros 0))
+    own_below = below_more _ (omega arith) (tallied_below zeros own own_whole (below_zeros 0))
 
     -- ---- as the code finds it
 
@@ -161,8 +161,8 @@ module _ {e : ℕ} {file places before after : List ℕ} {at number : ℕ} {clos
           record {
             short = a.short;
             placed = placed_rest file places i (rw p.picked (goes_placed e file (omega (arith, a.long))));
-            few = omega (arith, n, few-places);
-            room = omega (arith, mid_len at (length after) after (omega arith), as_long, p.wrote.next, p.room, blocks-length, first-length);
+            few = omega (arith, n, few_places);
+            room = omega (arith, mid_len at (length after) after (omega arith), as_long, p.wrote.next, p.room, blocks_length, first_length);
           },
           omega (arith, n),
         )
@@ -173,10 +173,10 @@ module _ {e : ℕ} {file places before after : List ℕ} {at number : ℕ} {clos
       batched = rw (rest_of i places) at w
 
       pub batch_few : n ≤ 10000
-      batch_few = omega (arith, batched.count, own_inside, few-places)
+      batch_few = omega (arith, batched.count, own_inside, few_places)
 
       pub batch_below : Below (10 ^ 18) t
-      batch_below = rw batched.tally (below_more _ (omega (arith, own_inside, few-places)) own_below)
+      batch_below = rw batched.tally (below_more _ (omega (arith, own_inside, few_places)) own_below)
 
       pub batch_done : Progress e file places before (put_mid at (length after - at) after part) (at + (n + 2) * 94) (number + 1) (plus closed t) (i + (n + 1))
       batch_done =
@@ -187,10 +187,10 @@ module _ {e : ℕ} {file places before after : List ℕ} {at number : ℕ} {clos
             picked = p.picked;
             room = p.room;
             rest = next.others;
-            good = here-good.2;
+            good = here_good.2;
             left = rw (k, next.own, ← drop-drop (length (item_records next.batch.items) + 1) i places) next.later;
             text = p.text ++ joined first;
-            wrote = on p.wrote (joined first) (omega (arith, first-length), ap (put_mid at (length after - at) after) batched.bytes ∙ rest_laid at (joined first) after start_room);
+            wrote = on p.wrote (joined first) (omega (arith, first_length), ap (put_mid at (length after - at) after) batched.bytes ∙ rest_laid at (joined first) after start_room);
             all = rw (d, batched.tally) split;
             even = omega (arith, p.even);
             bounded = omega (arith, p.bounded);
@@ -213,19 +213,19 @@ module _ {e : ℕ} {file places before after : List ℕ} {at number : ℕ} {clos
     unfolding blocks_from joined
     ends = p.all ∙ rw (none_left, append-nil) refl
 
-    ends-length : length (blocks_to e file) ≡ length p.text + 94
-    ends-length = ap length ends ∙ length-append p.text _ ∙ omega (arith, length_file_control (at / 94 + 1) number closed)
+    ends_length : length (blocks_to e file) ≡ length p.text + 94
+    ends_length = ap length ends ∙ length-append p.text _ ∙ omega (arith, length_file_control (at / 94 + 1) number closed)
 
     pub end_room : at + 94 ≤ length after
-    end_room = omega (arith, as_long, p.wrote.next, p.room, ends-length)
+    end_room = omega (arith, as_long, p.wrote.next, p.room, ends_length)
 
     -- 10,000 records at most, since an extract is never longer than its file
     pub end_few : at / 94 + 1 ≤ 10000
-    end_few = omega (arith, blocks_fit e file p.passed, (accepted_facts p.passed.rules file p.passed.accepts).short, ends-length, p.wrote.next, p.even)
+    end_few = omega (arith, blocks_fit e file p.passed, (accepted_facts p.passed.rules file p.passed.accepts).short, ends_length, p.wrote.next, p.even)
 
-    end-done : {control : List ℕ} → control ≡ file_control_of (at / 94 + 1) number closed
+    end_done : {control : List ℕ} → control ≡ file_control_of (at / 94 + 1) number closed
         → Wrote 94 (blocks_to e file) before (put_mid at (at + 94 - at) after control) (at + 94)
-    end-done {control} c =
+    end_done {control} c =
         let z = ap length c ∙ length_file_control (at / 94 + 1) number closed in
         rw (ends, ← c) (on p.wrote control (omega (arith, z), part_laid at (at + 94) control after (omega (arith, z))))
 
@@ -236,7 +236,7 @@ module _ {currency : Currency} {e : ℕ} {file places buffer head rec : List ℕ
   extracted : Wrote 0 (extract currency e file) buffer (put_mid at (at + 94 - at) out control) (at + 94)
   unfolding record_at
   extracted =
-      let d = end-done p l c in
+      let d = end_done p l c in
       let first = rw q at h in
       rw (header_blocks currency e file t.passed, ← first) (on (headed t h q z) (blocks_to e file) (d.next, d.held))
 

@@ -11,10 +11,10 @@ use Rattle.extract.specs.Header.{destination_for}
 
 destination_on : (a : List ℕ) (currency : Currency) (e : ℕ)
     → a ++ destination_for currency e ≡ a ++ bytes " " ++ spelled 4 (e + currency_adds currency) ++ bytes "0000" ++ bytes "0"
-destination_on a currency e = parts-on (spelled 4 (e + currency_adds currency))
+destination_on a currency e = parts_on (spelled 4 (e + currency_adds currency))
   where
-    parts-on : (n : List ℕ) → a ++ (bytes " " ++ n ++ bytes "00000") ≡ a ++ bytes " " ++ n ++ bytes "0000" ++ bytes "0"
-    parts-on n =
+    parts_on : (n : List ℕ) → a ++ (bytes " " ++ n ++ bytes "00000") ≡ a ++ bytes " " ++ n ++ bytes "0000" ++ bytes "0"
+    parts_on n =
         sym (append_assoc a (bytes " " ++ n) (bytes "00000"))
         ∙ (ap (λ (l : List ℕ). l ++ bytes "00000") (sym (append_assoc a (bytes " ") n)) ∙ sym (append_assoc (a ++ bytes " " ++ n) (bytes "0000") (bytes "0")))
 

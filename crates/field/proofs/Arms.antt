@@ -18,8 +18,8 @@ module _ {A B : Type 0} (tag : B → ℕ) (at : ℕ → B) (back : (v : B) → a
   listed (k ∷ (l ∷ ks)) h n (inl e) = h.0 ∙ ap (λ (x : ℕ). row (at x)) (sym e)
   listed (k ∷ (l ∷ ks)) h n (inr e) = listed (l ∷ ks) h.1 n e
 
-  in-arm : (ks : List ℕ) → Keys (λ n. said ≡ row (at n)) ks → (v : B) → OneOf ks (tag v) → said ≡ row v
-  in-arm ks h v e = listed ks h (tag v) e ∙ ap row (back v)
+  in_arm : (ks : List ℕ) → Keys (λ n. said ≡ row (at n)) ks → (v : B) → OneOf ks (tag v) → said ≡ row v
+  in_arm ks h v e = listed ks h (tag v) e ∙ ap row (back v)
 
 abbrev pub kind_at : ℕ → Kind
 kind_at zero = FileHeader
@@ -40,7 +40,7 @@ kind_back FileControl = refl
 kind_back Other = refl
 
 pub in_kinds : {A : Type 0} (said : A) (row : Kind → A) (ks : List ℕ) → Keys (λ n. said ≡ row (kind_at n)) ks → (k : Kind) → OneOf ks (tag_of kind.the_type k) → said ≡ row k
-in_kinds = in-arm (tag_of kind.the_type) kind_at kind_back
+in_kinds = in_arm (tag_of kind.the_type) kind_at kind_back
 
 abbrev pub before_at : ℕ → Before
 before_at zero = Nothing
@@ -59,4 +59,4 @@ before_back Inside = refl
 before_back Ended = refl
 
 pub in_befores : {A : Type 0} (said : A) (row : Before → A) (ks : List ℕ) → Keys (λ n. said ≡ row (before_at n)) ks → (b : Before) → OneOf ks (tag_of before.the_type b) → said ≡ row b
-in_befores = in-arm (tag_of before.the_type) before_at before_back
+in_befores = in_arm (tag_of before.the_type) before_at before_back

@@ -120,15 +120,15 @@ module _ (f : List ℕ) {m n check : ℕ} (w : InWords f m n check) (t : T (digi
   backs : Run (λ i. get_or (take 8 (drop 5 f)) i 0 ≡ get_or f (5 + i) 0) 0 8
   backs = run_of (λ i. get_or (take 8 (drop 5 f)) i 0 ≡ get_or f (5 + i) 0) 0 8 (λ i l b. get_or-take 8 (drop 5 f) i 0 (omega arith) ∙ get_or-drop 5 f i 0)
 
-  block-folded : Folded m n (weighted weights (take 13 f))
+  block_folded : Folded m n (weighted weights (take 13 f))
   unfolding packed weighted
-  block-folded =
+  block_folded =
       let d = digit_at in
       let g = w.begin in
       let front_bytes : m ≡ packed (listed g 0 0 8) = word_bytes w.begins in
-      let back-bytes : n ≡ packed (listed (take 8 (drop 5 f)) 0 0 8) = word_bytes w.next_eight in
+      let back_bytes : n ≡ packed (listed (take 8 (drop 5 f)) 0 0 8) = word_bytes w.next_eight in
       let found = folded (d 0) (d 1) (d 2) (d 3) (d 4) (d 5) (d 6) (d 7) (d 8) (d 9) (d 10) (d 11) (d 12) (omega (arith, nines)) (get_or g 0 0) (get_or g 1 0) (get_or g 2 0) m n
-      (w.begins.bytes 0, w.begins.bytes 1, w.begins.bytes 2) (omega (arith, front_bytes, fronts, nines)) (omega (arith, back-bytes, backs, nines)) in
+      (w.begins.bytes 0, w.begins.bytes 1, w.begins.bytes 2) (omega (arith, front_bytes, fronts, nines)) (omega (arith, back_bytes, backs, nines)) in
       let total : weighted weights (take 13 f) ≡ (d 5 + d 9 + d 1) * 9 + (d 6 + d 10 + d 2) * 7 + (d 7 + d 11 + d 3) * 1 + (d 8 + d 0 + d 12 + d 4) * 3 =
       ap (λ (f : List ℕ). weighted weights (take 13 f)) spread ∙ omega arith in
       rw total found
@@ -141,23 +141,23 @@ module _ (f : List ℕ) {m n check : ℕ} (w : InWords f m n check) (t : T (digi
       sum : ℕ
       sum = weighted weights (take 13 f) + value (take 1 (drop 13 f))
 
-      last-digit : value (take 1 (drop 13 f)) ≡ get_or f 13 0 - 48
-      last-digit = ap (λ (f : List ℕ). value (take 1 (drop 13 f))) spread ∙ omega arith
+      last_digit : value (take 1 (drop 13 f)) ≡ get_or f 13 0 - 48
+      last_digit = ap (λ (f : List ℕ). value (take 1 (drop 13 f))) spread ∙ omega arith
 
       four : ℕ
       four = eight m n + eight m n / 0x1_0000_0000
 
       whole : eight m n % 2 ^ 64 ≡ eight m n
-      whole = in_a_word (eight m n) (less (eight m n) (eight m n / 0x1_0000_0000) block-folded.small)
+      whole = in_a_word (eight m n) (less (eight m n) (eight m n / 0x1_0000_0000) block_folded.small)
 
       comes : weighed four + check ≡ 3072 + sum
       comes =
           let range = digit_range (get_or f 13 0) (every_at digit f 13 t (omega (arith, w.long))) in
-          omega (arith, block-folded.comes_to, last-digit, w.last, range)
+          omega (arith, block_folded.comes_to, last_digit, w.last, range)
 
       go : (b : Bool) → eqb (sum % 10) 0 ≡ b
           → eqb ((weighed ((eight m n % 2 ^ 64 + eight m n % 2 ^ 64 / 0x1_0000_0000) % 2 ^ 64) + check) % 10) 2 ≡ b
-      go b h = rw (whole, in_a_word four block-folded.small) (told b h)
+      go b h = rw (whole, in_a_word four block_folded.small) (told b h)
         where
           told : (b : Bool) → eqb (sum % 10) 0 ≡ b → eqb ((weighed four + check) % 10) 2 ≡ b
           told true h = eq-eqb ((weighed four + check) % 10) 2 (omega (arith, comes, eqb-true (sum % 10) 0 h))

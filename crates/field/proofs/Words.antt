@@ -52,8 +52,8 @@ module _ (r : List ℕ) (first : ℕ) (h : HasField r first (first + 9)) where
 
 module _ (r : List ℕ) (l : length r ≡ 94) where
   -- 80-94 in two ways
-  after-sender : field r 80 94 ≡ field r 80 87 ++ field r 88 94
-  after-sender = parted r 80 87 94 (omega arith) (omega arith) (omega arith)
+  after_sender : field r 80 94 ≡ field r 80 87 ++ field r 88 94
+  after_sender = parted r 80 87 94 (omega arith) (omega arith) (omega arith)
 
   before_last : field r 80 94 ≡ field r 80 86 ++ field r 87 94
   before_last = parted r 80 86 94 (omega arith) (omega arith) (omega arith)
@@ -68,12 +68,12 @@ module _ (r : List ℕ) (l : length r ≡ 94) where
   unfolding sequence_of sequence_if
   sequence_told h k =
       let seven : digits (drop 1 (field r 87 94)) ≡ true = of_T _ (every_drop digit 1 (field r 87 94) (T_of k)) in
-      let all : digits (field r 80 94) ≡ true = rw (after-sender, every_append digit (field r 80 87) (field r 88 94), h, shared) seven in
+      let all : digits (field r 80 94) ≡ true = rw (after_sender, every_append digit (field r 80 87) (field r 88 94), h, shared) seven in
       rw (all, shared, ← a_number (drop 1 (field r 87 94)) seven refl, last_seven (field r 87 94) (part_length r 87 94 (omega arith)) (T_of k))
 
   pub sequence_first : digits (field r 80 87) ≡ false → Other ≡ sequence_of r
   unfolding sequence_of sequence_if
-  sequence_first h = rw (after-sender, every_append digit (field r 80 87) (field r 88 94), h)
+  sequence_first h = rw (after_sender, every_append digit (field r 80 87) (field r 88 94), h)
 
   pub sequence_last : digits (field r 87 94) ≡ false → Other ≡ sequence_of r
   unfolding sequence_of sequence_if

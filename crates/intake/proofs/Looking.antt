@@ -100,17 +100,17 @@ module _ {seen : Look} {before after : Source} {body buffer : List ℕ} {n : ℕ
       }
 
   module _ (e : has_ended after ≡ false) (l : length buffer ≡ 2508000) where
-    full-length : length (take n buffer) ≡ 2508000
-    full-length = read_length ∙ full before after n buffer p.further e ∙ l
+    full_length : length (take n buffer) ≡ 2508000
+    full_length = read_length ∙ full before after n buffer p.further e ∙ l
 
-    full-whole : (form : Form) (bytes : List ℕ) → length bytes % width_of form ≡ 0 → length (bytes ++ take n buffer) % width_of form ≡ 0
-    full-whole form bytes w = rw (length-append bytes (take n buffer), full-length) (whole_sum (length bytes) 2508000 (width_of form) w (buffer_whole form))
+    full_whole : (form : Form) (bytes : List ℕ) → length bytes % width_of form ≡ 0 → length (bytes ++ take n buffer) % width_of form ≡ 0
+    full_whole form bytes w = rw (length-append bytes (take n buffer), full_length) (whole_sum (length bytes) 2508000 (width_of form) w (buffer_whole form))
 
     pub goes_on : {form : Form} {path : List ℕ} → LongSoFar form path body before seen → LongSoFar form path body after known
     goes_on {form} so =
         record {
           bytes = so.bytes ++ take n buffer;
-          whole = full-whole form so.bytes so.whole;
+          whole = full_whole form so.bytes so.whole;
           long = omega (arith, so.long, length-append so.bytes (take n buffer));
           looked = further so.bytes so.whole so.looked;
         }
@@ -120,8 +120,8 @@ module _ {seen : Look} {before after : Source} {body buffer : List ℕ} {n : ℕ
     is_long {form} first =
         record {
           bytes = take n buffer;
-          whole = full-whole form [] (zero-mod (width_of form));
-          long = omega (arith, buffer_long form, full-length);
+          whole = full_whole form [] (zero-mod (width_of form));
+          long = omega (arith, buffer_long form, full_length);
           looked = further [] (zero-mod (width_of form)) first;
         }
 

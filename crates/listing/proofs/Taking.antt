@@ -31,14 +31,14 @@ module _ (file : List ℕ) where
   no_currency h = rw (lt-leb 94 (length file) h)
 
   -- the four digits of an entity field are 15-18
-  in-15-18 : of_currency Dollars (field file 15 22) ≡ within 501 999 (number (field file 15 18))
+  in_15_18 : of_currency Dollars (field file 15 22) ≡ within 501 999 (number (field file 15 18))
   unfolding of_currency entity_value
-  in-15-18 = ap (λ (f : List ℕ). within 501 999 (number f)) (take-take 4 8 (drop 14 file) (omega arith))
+  in_15_18 = ap (λ (f : List ℕ). within 501 999 (number f)) (take-take 4 8 (drop 14 file) (omega arith))
 
   pub in_dollars : 94 ≤ length file → of_currency Dollars (field file 15 22) ≡ true → Dollars ≡ currency_in file
   unfolding currency_in has_header
-  in_dollars h d = rw (le-leb 94 (length file) h, sym in-15-18 ∙ d)
+  in_dollars h d = rw (le-leb 94 (length file) h, sym in_15_18 ∙ d)
 
   pub in_pesos : 94 ≤ length file → of_currency Dollars (field file 15 22) ≡ false → Pesos ≡ currency_in file
   unfolding currency_in has_header
-  in_pesos h d = rw (le-leb 94 (length file) h, sym in-15-18 ∙ d)
+  in_pesos h d = rw (le-leb 94 (length file) h, sym in_15_18 ∙ d)

@@ -93,13 +93,13 @@ batch_read rules before r h = search (also_l, also_r, need_T) depth 14
 -- ---- the order of types
 
 pub data Follows : Before → Kind → Type 0 where
-  file-begins : Follows Nothing FileHeader
-  batch-opens : Follows Between BatchHeader
-  file-ends : Follows Between FileControl
-  first-individual : Follows Opened Individual
-  its-additional : Follows Flagged Additional
+  file_begins : Follows Nothing FileHeader
+  batch_opens : Follows Between BatchHeader
+  file_ends : Follows Between FileControl
+  first_individual : Follows Opened Individual
+  its_additional : Follows Flagged Additional
   next_individual : Follows Inside Individual
-  batch-closes : Follows Inside BatchControl
+  batch_closes : Follows Inside BatchControl
 
 no : {A : Type 0} {n : ℕ} → wrong n ≡ fine → A
 no h = absurd (wrong_not_fine h)
@@ -107,11 +107,11 @@ no h = absurd (wrong_not_fine h)
 -- a row for what stands before, a column for each type
 pub follows : (b : Before) (k : Kind) → allowed b k ≡ fine → Follows b k
 unfolding allowed
-follows Nothing = each_kind (λ k. allowed Nothing k ≡ fine → Follows Nothing k) (λ h. file-begins) no no no no no no
-follows Between = each_kind (λ k. allowed Between k ≡ fine → Follows Between k) no (λ h. batch-opens) no no no (λ h. file-ends) no
-follows Opened = each_kind (λ k. allowed Opened k ≡ fine → Follows Opened k) no no (λ h. first-individual) no no no no
-follows Flagged = each_kind (λ k. allowed Flagged k ≡ fine → Follows Flagged k) no no no (λ h. its-additional) no no no
-follows Inside = each_kind (λ k. allowed Inside k ≡ fine → Follows Inside k) no no (λ h. next_individual) no (λ h. batch-closes) no no
+follows Nothing = each_kind (λ k. allowed Nothing k ≡ fine → Follows Nothing k) (λ h. file_begins) no no no no no no
+follows Between = each_kind (λ k. allowed Between k ≡ fine → Follows Between k) no (λ h. batch_opens) no no no (λ h. file_ends) no
+follows Opened = each_kind (λ k. allowed Opened k ≡ fine → Follows Opened k) no no (λ h. first_individual) no no no no
+follows Flagged = each_kind (λ k. allowed Flagged k ≡ fine → Follows Flagged k) no no no (λ h. its_additional) no no no
+follows Inside = each_kind (λ k. allowed Inside k ≡ fine → Follows Inside k) no no (λ h. next_individual) no (λ h. batch_closes) no no
 follows Ended = λ k. no
 
 pub record Judged (rules : ReadingRules) (s : State) (r : List ℕ) : Type 0 where
@@ -130,7 +130,7 @@ unfolding start
 first_header rules r rs h = go (kind_of r) (judged_facts rules start r h.0).order
   where
     go : (k : Kind) → Follows Nothing k → k ≡ FileHeader
-    go k file-begins = refl
+    go k file_begins = refl
 
 -- Nothing stands after a 9
 pub after_last : (rules : ReadingRules) (s : State) (rs : List (List ℕ)) → s.before ≡ Ended → Faultless rules s rs → rs ≡ []

@@ -58,20 +58,20 @@ weighted_set (w ∷ ws) (x ∷ f) (suc i) d l = omega (arith, weighted_set ws f 
 
 -- each weight is prime to ten: its product with a digit has a unit of its own, from which another factor brings the digit back
 module _ (w x y s : ℕ) (h : x < 10) (k : y < 10) (p : (s + w * x) % 10 ≡ 0) (q : (s + w * y) % 10 ≡ 0) where
-  brought-back : (n back : ℕ) → Run (λ z. back * (n * z % 10) % 10 ≡ z) 0 10 → T (eqb w n) → x ≡ y
-  brought-back n back each e =
+  brought_back : (n back : ℕ) → Run (λ z. back * (n * z % 10) % 10 ≡ z) 0 10 → T (eqb w n) → x ≡ y
+  brought_back n back each e =
       let units : w * x % 10 ≡ w * y % 10 = omega (arith, p, q) in
-      let is-so : w ≡ n = eqb-true w n (of_T (eqb w n) e) in
+      let is_so : w ≡ n = eqb-true w n (of_T (eqb w n) e) in
       let digit = in_run (λ z. back * (n * z % 10) % 10 ≡ z) 0 10 each in
-      sym (digit x (omega arith) h) ∙ (ap (λ (u : ℕ). back * u % 10) (rw is-so at units) ∙ digit y (omega arith) k)
+      sym (digit x (omega arith) h) ∙ (ap (λ (u : ℕ). back * u % 10) (rw is_so at units) ∙ digit y (omega arith) k)
 
-  same-digit : T (among (1 ∷ 3 ∷ 7 ∷ 9 ∷ []) w) → x ≡ y
+  same_digit : T (among (1 ∷ 3 ∷ 7 ∷ 9 ∷ []) w) → x ≡ y
   unfolding among
-  same-digit t =
-      or_go (eqb w 1) (eqb w 3 || (eqb w 7 || (eqb w 9 || false))) t (brought-back 1 1 (search depth 12))
-      (λ t. or_go (eqb w 3) (eqb w 7 || (eqb w 9 || false)) t (brought-back 3 7 (search depth 12))
-      (λ t. or_go (eqb w 7) (eqb w 9 || false) t (brought-back 7 3 (search depth 12))
-      (λ t. or_go (eqb w 9) false t (brought-back 9 9 (search depth 12)) (λ (f : T false). absurd f))))
+  same_digit t =
+      or_go (eqb w 1) (eqb w 3 || (eqb w 7 || (eqb w 9 || false))) t (brought_back 1 1 (search depth 12))
+      (λ t. or_go (eqb w 3) (eqb w 7 || (eqb w 9 || false)) t (brought_back 3 7 (search depth 12))
+      (λ t. or_go (eqb w 7) (eqb w 9 || false) t (brought_back 7 3 (search depth 12))
+      (λ t. or_go (eqb w 9) false t (brought_back 9 9 (search depth 12)) (λ (f : T false). absurd f))))
 
 module _ (f : List ℕ) (l : length f ≡ 14) (i : ℕ) (k : i < 14) where
   -- of a good block, a digit's value is below ten, and the sum holds its share
@@ -97,16 +97,16 @@ module _ (f : List ℕ) (l : length f ≡ 14) (i : ℕ) (k : i < 14) where
       let a = share d h in
       let b = share e g in
       let prime = every_at (among (1 ∷ 3 ∷ 7 ∷ 9 ∷ [])) all_weights i tt k in
-      let alike = same-digit (get_or all_weights i 0) (d - 48) (e - 48) (weighted all_weights (set f i 48)) (omega (arith, a)) (omega (arith, b)) a.2 b.2 prime in
+      let alike = same_digit (get_or all_weights i 0) (d - 48) (e - 48) (weighted all_weights (set f i 48)) (omega (arith, a)) (omega (arith, b)) a.2 b.2 prime in
       omega (arith, a, b, alike)
 
 -- what a good account says of its two parts
 module _ (r : List ℕ) (t : T (is (field r 13 15) "000" && block_good (field r 16 29))) where
-  zeros-before : field r 13 15 ≡ bytes "000"
-  zeros-before = same→eq (field r 13 15) (bytes "000") (and_l (is (field r 13 15) "000") (block_good (field r 16 29)) t)
+  zeros_before : field r 13 15 ≡ bytes "000"
+  zeros_before = same→eq (field r 13 15) (bytes "000") (and_l (is (field r 13 15) "000") (block_good (field r 16 29)) t)
 
-  block-behind : block_good (field r 16 29) ≡ true
-  block-behind = of_T (block_good (field r 16 29)) (and_r (is (field r 13 15) "000") (block_good (field r 16 29)) t)
+  block_behind : block_good (field r 16 29) ≡ true
+  block_behind = of_T (block_good (field r 16 29)) (and_r (is (field r 13 15) "000") (block_good (field r 16 29)) t)
 
 -- whatever then stands at one position of 13 to 29, if it is not what stood there a good account is bad
 -- (not so if a weight were 5, or if 13-15 were not asked)
@@ -129,21 +129,21 @@ one_changed r p d l low high other h = go (account_checked s) refl
         let e : p - 1 ≡ 15 + (p - 16) = omega arith in
         ap (λ (i : ℕ). take 14 (drop 15 (set r i d))) e ∙ (ap (take 14) (drop-set-add 15 r (p - 16) d) ∙ take-set-lt 14 (drop 15 r) (p - 16) d (omega arith))
 
-    same-there : account_checked s ≡ true → (q : Bool) → leb p 15 ≡ q → get_or r (p - 1) 0 ≡ d
-    same-there e true q =
+    same_there : account_checked s ≡ true → (q : Bool) → leb p 15 ≡ q → get_or r (p - 1) 0 ≡ d
+    same_there e true q =
         let k = leb-true p 15 q in
-        let alike = ap (λ (g : List ℕ). get_or g (p - 13) 0) (zeros-before r (T_of h) ∙ sym (zeros-before s (T_of e))) in
+        let alike = ap (λ (g : List ℕ). get_or g (p - 13) 0) (zeros_before r (T_of h) ∙ sym (zeros_before s (T_of e))) in
         sym (field_at r 13 15 p (omega arith) low k) ∙ (alike ∙ (field_at s 13 15 p (omega arith) low k ∙ now))
-    same-there e false q =
+    same_there e false q =
         let k = leb-false p 15 q in
         let long : length f ≡ 14 = simp (length-take, length-drop) (omega arith) in
-        let before = ap block_good (set-get_or f (p - 16) 0) ∙ block-behind r (T_of h) in
-        let after = ap block_good (sym (changed (omega arith))) ∙ block-behind s (T_of e) in
+        let before = ap block_good (set-get_or f (p - 16) 0) ∙ block_behind r (T_of h) in
+        let after = ap block_good (sym (changed (omega arith))) ∙ block_behind s (T_of e) in
         sym (field_at r 16 29 p (omega arith) (omega arith) high) ∙ only_one f long (p - 16) (omega arith) (get_or f (p - 16) 0) d before after
 
     go : (b : Bool) → account_checked s ≡ b → b ≡ false
     go false e = refl
-    go true e = absurd (other (same-there e (leb p 15) refl))
+    go true e = absurd (other (same_there e (leb p 15) refl))
 
 -- ---- the last digit
 

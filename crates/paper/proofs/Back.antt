@@ -81,9 +81,9 @@ module _ (rules : ReadingRules) (head : List ℕ) (rs : List (List ℕ)) (z : Si
   k = first_header rules head rs h
 
   -- what is built from the stripped file is the file's normal form
-  build-strip : build head (strip (joined (head ∷ rs))) ≡ joined (head ∷ normals 0 0 rs)
+  build_strip : build head (strip (joined (head ∷ rs))) ≡ joined (head ∷ normals 0 0 rs)
   unfolding build strip closing records_of tray_records stripped start next nothing_counted counted before_next marked owed settled
-  build-strip =
+  build_strip =
       let c : Reckoning = counted FileHeader nothing_counted head in
       let link : Beside (next start head).counts c = rw k (record { place = refl; batches = refl; closed = refl }) in
       ap (λ (l : List (List ℕ)). joined (head ∷ with_controls c (numbering 0 0 (map (drop 2) (parts 96 (length (joined (stripped l)) / 96) (joined (stripped l))))))) (records_joined 94 (head ∷ rs) (omega arith) z)
@@ -92,13 +92,13 @@ module _ (rules : ReadingRules) (head : List ℕ) (rs : List (List ℕ)) (z : Si
       ∙ ap (λ (l : List (List ℕ)). joined (head ∷ l)) (rebuilt rules rs z.1 (next start head) c 0 Between (ap (λ (x : Kind). before_next x head) k) link h.1)
 
   -- it is the file exactly when the file is as built
-  back-records : (build head (strip (joined (head ∷ rs))) ≡ joined (head ∷ rs)) ↔ AsBuilt 0 0 rs
+  back_records : (build head (strip (joined (head ∷ rs))) ≡ joined (head ∷ rs)) ↔ AsBuilt 0 0 rs
   unfolding records_of
-  back-records = (there, λ t. build-strip ∙ ap (λ (l : List (List ℕ)). joined (head ∷ l)) (tidy_normals rs 0 0 z.1 t))
+  back_records = (there, λ t. build_strip ∙ ap (λ (l : List (List ℕ)). joined (head ∷ l)) (tidy_normals rs 0 0 z.1 t))
     where
       there : build head (strip (joined (head ∷ rs))) ≡ joined (head ∷ rs) → AsBuilt 0 0 rs
       there e =
-          let q : joined (head ∷ normals 0 0 rs) ≡ joined (head ∷ rs) = sym build-strip ∙ e in
+          let q : joined (head ∷ normals 0 0 rs) ≡ joined (head ∷ rs) = sym build_strip ∙ e in
           normals_tidy rs 0 0 z.1 (tail-eq_of_cons-eq
           (sym (records_joined 94 (head ∷ normals 0 0 rs) (omega arith) (z.0, normals_sized rs 0 0 z.1))
           ∙ ap records_of q
@@ -109,7 +109,7 @@ module _ (rules : ReadingRules) (head : List ℕ) (rs : List (List ℕ)) (z : Si
       → (build head (strip file) ≡ file) ↔ AsBuilt 0 0 (records_of file)
   unfolding batches_after individuals_after
   back_file file w e =
-      let i : (build head (strip file) ≡ file) ↔ AsBuilt 0 0 rs = subst (λ (f : List ℕ). (build head (strip f) ≡ f) ↔ AsBuilt 0 0 rs) w back-records in
+      let i : (build head (strip file) ≡ file) ↔ AsBuilt 0 0 rs = subst (λ (f : List ℕ). (build head (strip f) ≡ f) ↔ AsBuilt 0 0 rs) w back_records in
       rw (e, k) ((λ q. (tt, i.0 q)), λ t. i.1 t.1)
 
 -- building from a stripped file and its own header gives the file exactly when it is numbered this way and its free control positions are blank

@@ -15,7 +15,7 @@ use Rattle.paper.specs.Writing.{with_controls}
 use Rattle.paper.specs.Extract.{Item, Batch, Groups, prepended, grouped, item_records, batch_records}
 use Rattle.paper.specs.Demands.{items_in, carried_by, carried}
 use Rattle.paper.proofs.Lists.{kind_numbered}
-use Rattle.paper.proofs.Accepted.{Follows, file-begins, batch-opens, file-ends, first-individual, its-additional, next_individual, batch-closes}
+use Rattle.paper.proofs.Accepted.{Follows, file_begins, batch_opens, file_ends, first_individual, its_additional, next_individual, batch_closes}
 use Rattle.paper.proofs.Facts.{Shaped}
 use Rattle.paper.proofs.Grouping.{AdditionalsGood, ItemsGood, BatchesGood}
 use Rattle.paper.proofs.Regrouping.{over_controls}
@@ -94,17 +94,17 @@ inside false = refl
 one_more : (b : Before) (k : Kind) (r : List ℕ) (g : Groups) (l : List (List ℕ)) (n : ℕ) → Follows b k → Left (before_next k r) g l n
     → Left b (prepended k r g) (carried_by k r l) (suc n)
 unfolding prepended carried_by before_next item_records items_in
-one_more b k r g l n file-begins q = record { loose = q.loose; all = q.all; count = omega (arith, q.count) }
-one_more b k r g l n batch-opens q = record {
+one_more b k r g l n file_begins q = record { loose = q.loose; all = q.all; count = omega (arith, q.count) }
+one_more b k r g l n batch_opens q = record {
   loose = (refl, refl);
   all = q.all ∙ rw q.loose (sym (item_records_append g.items (items_in g.batches)));
   count = omega (arith, q.count);
 }
-one_more b k r g l n file-ends q = record { loose = q.loose; all = q.all; count = omega (arith, q.count) }
-one_more b k r g l n first-individual q = record { loose = refl; all = six r g q.all; count = omega (arith, q.count, inside (is (field r 79 79) "1")) }
-one_more b k r g l n its-additional q = record { loose = tt; all = ap (λ (x : List (List ℕ)). r ∷ x) q.all; count = omega (arith, q.count) }
+one_more b k r g l n file_ends q = record { loose = q.loose; all = q.all; count = omega (arith, q.count) }
+one_more b k r g l n first_individual q = record { loose = refl; all = six r g q.all; count = omega (arith, q.count, inside (is (field r 79 79) "1")) }
+one_more b k r g l n its_additional q = record { loose = tt; all = ap (λ (x : List (List ℕ)). r ∷ x) q.all; count = omega (arith, q.count) }
 one_more b k r g l n next_individual q = record { loose = refl; all = six r g q.all; count = omega (arith, q.count, inside (is (field r 79 79) "1")) }
-one_more b k r g l n batch-closes q = record { loose = q.loose.0; all = q.all; count = omega (arith, q.count) }
+one_more b k r g l n batch_closes q = record { loose = q.loose.0; all = q.all; count = omega (arith, q.count) }
 
 pub left : (b : Before) (rs : List (List ℕ)) → Shaped b rs → Left b (grouped rs) (carried rs) (length rs)
 unfolding grouped carried item_records items_in

@@ -22,7 +22,7 @@ use Rattle.paper.specs.Demands.{Faultless}
 use Rattle.paper.proofs.Tests.{and_l, and_r, or_go, within_range, same→eq}
 use Rattle.paper.proofs.Lists.{Sized}
 use Rattle.paper.proofs.Digits.{number_bound}
-use Rattle.paper.proofs.Accepted.{IndividualRead, entry_read, BatchRead, batch_read, Follows, file-begins, batch-opens, file-ends, first-individual, its-additional, next_individual, batch-closes, judged_facts, accepted_facts}
+use Rattle.paper.proofs.Accepted.{IndividualRead, entry_read, BatchRead, batch_read, Follows, file_begins, batch_opens, file_ends, first_individual, its_additional, next_individual, batch_closes, judged_facts, accepted_facts}
 
 -- an entity of the session
 pub record Entity (rules : Rules) (f : List ℕ) : Type 0 where
@@ -108,13 +108,13 @@ all_facts rules (r ∷ rs) s z i h =
 
     go : (b : Before) (k : Kind) → Follows b k → In rules b s.counts.header → fields k (in_house rules) s r ≡ fine
         → Facts rules k r × In rules (before_next k r) (counted k s.counts r).header
-    go b k file-begins i f = (f, tt)
-    go b k batch-opens i f = (let b = batch_read rules s.counts.batches r f in (b, b))
-    go b k file-ends i f = (tt, tt)
-    go b k first-individual i f = (individual_of rules s.counts.header r s.counter z.0 i (entry_read rules s r f), inside (is (field r 79 79) "1") i)
-    go b k its-additional i f = (tt, i)
+    go b k file_begins i f = (f, tt)
+    go b k batch_opens i f = (let b = batch_read rules s.counts.batches r f in (b, b))
+    go b k file_ends i f = (tt, tt)
+    go b k first_individual i f = (individual_of rules s.counts.header r s.counter z.0 i (entry_read rules s r f), inside (is (field r 79 79) "1") i)
+    go b k its_additional i f = (tt, i)
     go b k next_individual i f = (individual_of rules s.counts.header r s.counter z.0 i (entry_read rules s r f), inside (is (field r 79 79) "1") i)
-    go b k batch-closes i f = (tt, tt)
+    go b k batch_closes i f = (tt, tt)
 
 -- everything an accepted file says of its records
 pub file_facts : (rules : Rules) (file : List ℕ) → reading rules file ≡ accepted → AllFacts rules (records_of file)

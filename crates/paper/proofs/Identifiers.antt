@@ -162,13 +162,13 @@ unfolding identifiers_from among key_of
 keys_identifiers o i [] l a = refl
 keys_identifiers o i (f ∷ fs) l a = go (eqb o (origin_of f)) refl (keys_identifiers o i fs l a.1)
   where
-    same-origin : o ≡ origin_of f → (b : Bool) → eqb i (identifier_of f) ≡ b → eqb (o * 36 + i) (origin_of f * 36 + identifier_of f) ≡ b
-    same-origin q true e = let w : i ≡ identifier_of f = eqb→eq i (identifier_of f) (T_of e) in rw (q, w) (eq-eqb (origin_of f * 36 + identifier_of f) _ refl)
-    same-origin q false e = let n = eqb-false i (identifier_of f) e in rw q (ne_eqb (origin_of f * 36 + i) (origin_of f * 36 + identifier_of f) (λ w. n (omega arith)))
+    same_origin : o ≡ origin_of f → (b : Bool) → eqb i (identifier_of f) ≡ b → eqb (o * 36 + i) (origin_of f * 36 + identifier_of f) ≡ b
+    same_origin q true e = let w : i ≡ identifier_of f = eqb→eq i (identifier_of f) (T_of e) in rw (q, w) (eq-eqb (origin_of f * 36 + identifier_of f) _ refl)
+    same_origin q false e = let n = eqb-false i (identifier_of f) e in rw q (ne_eqb (origin_of f * 36 + i) (origin_of f * 36 + identifier_of f) (λ w. n (omega arith)))
 
     go : (b : Bool) → eqb o (origin_of f) ≡ b → among (map key_of fs) (o * 36 + i) ≡ among (identifiers_from o fs) i
         → (eqb (o * 36 + i) (origin_of f * 36 + identifier_of f) || among (map key_of fs) (o * 36 + i)) ≡ among (cond b (identifier_of f ∷ identifiers_from o fs) (identifiers_from o fs)) i
-    go true e h = ap₂ ◌||◌ (same-origin (eqb→eq o (origin_of f) (T_of e)) (eqb i (identifier_of f)) refl) h
+    go true e h = ap₂ ◌||◌ (same_origin (eqb→eq o (origin_of f) (T_of e)) (eqb i (identifier_of f)) refl) h
     go false e h =
         let n = eqb-false o (origin_of f) e in
         rw (ne_eqb (o * 36 + i) (origin_of f * 36 + identifier_of f) (λ w. n (omega (arith, a.0)))) h

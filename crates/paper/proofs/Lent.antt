@@ -107,13 +107,13 @@ building_length rules header tray buffer = go (buildable header tray buffer) (re
         let later : Said = and_then (require (length_good (length file)) 201 0) (room_for file buffer) in
         room file buffer (both_accept (require (length_good (length file)) 201 0) (room_for file buffer) (both_accept (tray_answer header tray) later e).1).1
 
-    by-reading : (b : Said) → length file ≤ length buffer → length (built_as b file buffer).buffer ≡ length buffer
-    by-reading accepted l = over_length file buffer l
-    by-reading (refused n place) l = over_length (blanks (length file)) buffer (omega (arith, length-replicate {A = ℕ} (length file) 32))
+    by_reading : (b : Said) → length file ≤ length buffer → length (built_as b file buffer).buffer ≡ length buffer
+    by_reading accepted l = over_length file buffer l
+    by_reading (refused n place) l = over_length (blanks (length file)) buffer (omega (arith, length-replicate {A = ℕ} (length file) 32))
 
     go : (a b : Said) → buildable header tray buffer ≡ a → length (built_if a rules file buffer).buffer ≡ length buffer
     go (refused n place) b e = refl
-    go accepted b e = by-reading (reading rules file) (fits e)
+    go accepted b e = by_reading (reading rules file) (fits e)
 
 -- ---- building
 

@@ -156,11 +156,11 @@ p ⊕ q = ap₂ ◌++◌ p q
 
 module _ (r : List ℕ) (l : length r ≡ 94) where
   -- a part of a record, as spelled
-  part-spelled : (a w n : ℕ) → a + w ≤ 94 → T (spells (take w (drop a r)) n) → spelled w n ≡ take w (drop a r)
-  part-spelled a w n h t = sym (spells_spelled w (take w (drop a r)) n (length-take-le w (drop a r) (rw length-drop (omega arith))) t)
+  part_spelled : (a w n : ℕ) → a + w ≤ 94 → T (spells (take w (drop a r)) n) → spelled w n ≡ take w (drop a r)
+  part_spelled a w n h t = sym (spells_spelled w (take w (drop a r)) n (length-take-le w (drop a r) (rw length-drop (omega arith))) t)
 
-  part-spelled-mod : (a w n : ℕ) → a + w ≤ 94 → T (spells (take w (drop a r)) (n % 10 ^ w)) → spelled w n ≡ take w (drop a r)
-  part-spelled-mod a w n h t = sym (spelled_mod w n) ∙ part-spelled a w (n % 10 ^ w) h t
+  part_spelled_mod : (a w n : ℕ) → a + w ≤ 94 → T (spells (take w (drop a r)) (n % 10 ^ w)) → spelled w n ≡ take w (drop a r)
+  part_spelled_mod a w n h t = sym (spelled_mod w n) ∙ part_spelled a w (n % 10 ^ w) h t
 
   pub control_normal : (b n : ℕ) (h : List ℕ) (t : Tally) → length h ≡ 94 → kind_of r ≡ BatchControl → ControlRead h t r
       → batch_control_of (numbered b h) t ≡ normal BatchControl b n r
@@ -169,10 +169,10 @@ module _ (r : List ℕ) (l : length r ≡ 94) where
       let of : (a m : ℕ) → a + m ≤ 87 → take m (drop a (take 87 h ++ spelled 7 b)) ≡ take m (drop a h) = λ a m q. field_front a m h (spelled 7 b) q (omega arith) in
       (sym (one_of r 0 (omega arith) ∙ ap (λ (x : ℕ). x ∷ []) ((kind_byte (get_or r 0 0)).0 k))
       ⊕ (of 1 3 (omega arith) ∙ sym (same→eq (field r 2 4) (field h 2 4) c.service))
-      ⊕ part-spelled 4 6 t.records (omega arith) c.records
-      ⊕ part-spelled-mod 10 10 t.destinations (omega arith) c.destinations
-      ⊕ part-spelled 20 12 t.debits (omega arith) c.debits
-      ⊕ part-spelled 32 12 t.credits (omega arith) c.credits
+      ⊕ part_spelled 4 6 t.records (omega arith) c.records
+      ⊕ part_spelled_mod 10 10 t.destinations (omega arith) c.destinations
+      ⊕ part_spelled 20 12 t.debits (omega arith) c.debits
+      ⊕ part_spelled 32 12 t.credits (omega arith) c.credits
       ⊕ (of 40 10 (omega arith) ∙ sym (same→eq (field r 45 54) (field h 41 50) c.tax))
       ∙ sym (cut54 r))
       ⊕ refl
@@ -184,11 +184,11 @@ module _ (r : List ℕ) (l : length r ≡ 94) where
   unfolding file_control_of normal kind_of
   total_normal b n all count t k c =
       (sym (one_of r 0 (omega arith) ∙ ap (λ (x : ℕ). x ∷ []) ((kind_byte (get_or r 0 0)).1 k))
-      ⊕ part-spelled 1 6 count (omega arith) c.batches
-      ⊕ part-spelled 7 6 (blocks all) (omega arith) c.blocks
-      ⊕ part-spelled 13 8 t.records (omega arith) c.records
-      ⊕ part-spelled-mod 21 10 t.destinations (omega arith) c.destinations
-      ⊕ part-spelled 31 12 t.debits (omega arith) c.debits
-      ⊕ part-spelled 43 12 t.credits (omega arith) c.credits
+      ⊕ part_spelled 1 6 count (omega arith) c.batches
+      ⊕ part_spelled 7 6 (blocks all) (omega arith) c.blocks
+      ⊕ part_spelled 13 8 t.records (omega arith) c.records
+      ⊕ part_spelled_mod 21 10 t.destinations (omega arith) c.destinations
+      ⊕ part_spelled 31 12 t.debits (omega arith) c.debits
+      ⊕ part_spelled 43 12 t.credits (omega arith) c.credits
       ∙ sym (cut55 r))
       ⊕ refl

@@ -22,7 +22,7 @@ use Rattle.paper.specs.Reading.{counted, State, start, flag, before_next, next, 
 use Rattle.paper.specs.Postings.{Posting, posting, posted_by, sender_after, postings_from, postings, own_postings}
 use Rattle.paper.specs.Demands.{Faultless}
 use Rattle.paper.proofs.Lists.{length_parts}
-use Rattle.paper.proofs.Accepted.{entry_read, Follows, file-begins, batch-opens, file-ends, first-individual, its-additional, next_individual, batch-closes, judged_facts, accepted_facts}
+use Rattle.paper.proofs.Accepted.{entry_read, Follows, file_begins, batch_opens, file_ends, first_individual, its_additional, next_individual, batch_closes, judged_facts, accepted_facts}
 use Rattle.paper.proofs.Facts.{Facts, AllFacts, own_sender, file_facts}
 
 -- ---- by place
@@ -69,13 +69,13 @@ own_postings_lem rules (r ∷ rs) s n i h =
 
     go : (b : Before) (k : Kind) → Follows b k → Sent b s.counts.header n → fields k (in_house rules) s r ≡ fine
         → (posted_by k n r ≡ posted_by k (entity (field r 80 87)) r) × Sent (before_next k r) (counted k s.counts r).header (sender_after k n r)
-    go b k file-begins i f = (refl, tt)
-    go b k batch-opens i f = (refl, refl)
-    go b k file-ends i f = (refl, tt)
-    go b k first-individual i f = (six i f, inside (is (field r 79 79) "1") i)
-    go b k its-additional i f = (refl, i)
+    go b k file_begins i f = (refl, tt)
+    go b k batch_opens i f = (refl, refl)
+    go b k file_ends i f = (refl, tt)
+    go b k first_individual i f = (six i f, inside (is (field r 79 79) "1") i)
+    go b k its_additional i f = (refl, i)
     go b k next_individual i f = (six i f, inside (is (field r 79 79) "1") i)
-    go b k batch-closes i f = (refl, tt)
+    go b k batch_closes i f = (refl, tt)
 
 pub postings_own : (rules : Rules) (file : List ℕ) → reading rules file ≡ accepted → postings file ≡ own_postings (records_of file)
 unfolding postings start

@@ -20,7 +20,7 @@ use Rattle.paper.specs.Writing.{numbered, batch_control_of, file_control_of, owe
 use Rattle.paper.specs.Trays.{batches_after, individuals_after, numbered_by, numbering, zeroed, marked, stripped}
 use Rattle.paper.specs.Demands.{Faultless}
 use Rattle.paper.proofs.Lists.{Sized, kind_numbered}
-use Rattle.paper.proofs.Accepted.{control_read, total_read, Follows, file-begins, batch-opens, file-ends, first-individual, its-additional, next_individual, batch-closes, judged_facts, after_last}
+use Rattle.paper.proofs.Accepted.{control_read, total_read, Follows, file_begins, batch_opens, file_ends, first_individual, its_additional, next_individual, batch_closes, judged_facts, after_last}
 use Rattle.paper.proofs.Normal.{normal, normals, numbered_zeroed, with_individual_numbered, control_normal, total_normal}
 
 -- ---- the reader's counts and the writer's, side by side
@@ -87,8 +87,8 @@ settled_batches (suc n) c = refl
 
 module _ (rules : ReadingRules) (r : List ℕ) (rs : List (List ℕ)) (l : length r ≡ 94) (ih : Rebuilt rules rs) (s : State) (c : Reckoning) (n : ℕ) where
   -- a record of the tray is written under its number
-  numbered-kind : (m : ℕ) → kind_of (numbered m r) ≡ kind_of r
-  numbered-kind m = kind_numbered m r (omega arith)
+  numbered_kind : (m : ℕ) → kind_of (numbered m r) ≡ kind_of r
+  numbered_kind m = kind_numbered m r (omega arith)
 
   step5 : kind_of r ≡ BatchHeader → Beside s.counts c → Faultless rules (next s r) rs
       → with_controls c (numbering c.batches n (bodies (r ∷ rs))) ≡ owed c.batches c ++ normals c.batches n (r ∷ rs)
@@ -106,7 +106,7 @@ module _ (rules : ReadingRules) (r : List ℕ) (rs : List (List ℕ)) (l : lengt
         header = ap (λ (x : ℕ). numbered x r) (sym q);
         long = l;
       }) in
-      rw (k, kind_zeroed r l, k, numbered_zeroed m r l, numbered-kind m, k)
+      rw (k, kind_zeroed r l, k, numbered_zeroed m r l, numbered_kind m, k)
       (ap (λ (x : List (List ℕ)). owed c.batches c ++ numbered m r ∷ x)
       (subst (λ (x : ℕ). with_controls d (numbering x n (bodies rs)) ≡ normals x n rs) q (ih (next s r) d n Opened (ap (λ (x : Kind). before_next x r) k) link h)))
 
@@ -125,7 +125,7 @@ module _ (rules : ReadingRules) (r : List ℕ) (rs : List (List ℕ)) (l : lengt
         header = i.header;
         long = i.long;
       }) in
-      rw (k, kind_zeroed r l, k, numbered_zeroed (suc n) r l, numbered-kind (suc n), k)
+      rw (k, kind_zeroed r l, k, numbered_zeroed (suc n) r l, numbered_kind (suc n), k)
       (ap (λ (y : List (List ℕ)). numbered (suc n) r ∷ y)
       (ih (next s r) d (suc n) (flag x) (ap (λ (y : Kind). before_next y r) k) (link_flag x (next s r).counts d link) h ∙ ap (λ (o : List (List ℕ)). o ++ normals c.batches (suc n) rs) (owes_flag x d)))
 
@@ -143,7 +143,7 @@ module _ (rules : ReadingRules) (r : List ℕ) (rs : List (List ℕ)) (l : lengt
         header = i.header;
         long = i.long;
       }) in
-      rw (k, kind_zeroed r l, k, numbered_zeroed n r l, numbered-kind n, k)
+      rw (k, kind_zeroed r l, k, numbered_zeroed n r l, numbered_kind n, k)
       (ap (λ (y : List (List ℕ)). numbered n r ∷ y) (ih (next s r) d n Inside (ap (λ (y : Kind). before_next y r) k) link h))
 
   step8 : kind_of r ≡ BatchControl → Together s.counts c → fields BatchControl rules s r ≡ fine → Faultless rules (next s r) rs
@@ -181,10 +181,10 @@ rebuilt rules (r ∷ rs) z s c n w e link h =
   where
     go : (w : Before) (k : Kind) → Follows w k → kind_of r ≡ k → Link w s.counts c → fields k rules s r ≡ fine → Rebuilt rules rs
         → with_controls c (numbering c.batches n (bodies (r ∷ rs))) ≡ owes w c ++ normals c.batches n (r ∷ rs)
-    go w k file-begins q i f ih = absurd i
-    go w k batch-opens q i f ih = step5 rules r rs z.0 ih s c n q i h.1
-    go w k first-individual q i f ih = step6 rules r rs z.0 ih s c n q i h.1
+    go w k file_begins q i f ih = absurd i
+    go w k batch_opens q i f ih = step5 rules r rs z.0 ih s c n q i h.1
+    go w k first_individual q i f ih = step6 rules r rs z.0 ih s c n q i h.1
     go w k next_individual q i f ih = step6 rules r rs z.0 ih s c n q i h.1
-    go w k its-additional q i f ih = step7 rules r rs z.0 ih s c n q i h.1
-    go w k batch-closes q i f ih = step8 rules r rs z.0 ih s c n q i f h.1
-    go w k file-ends q i f ih = step9 rules r rs z.0 ih s c n q i f (after_last rules (next s r) rs (ap (λ (x : Kind). before_next x r) q) h.1)
+    go w k its_additional q i f ih = step7 rules r rs z.0 ih s c n q i h.1
+    go w k batch_closes q i f ih = step8 rules r rs z.0 ih s c n q i f h.1
+    go w k file_ends q i f ih = step9 rules r rs z.0 ih s c n q i f (after_last rules (next s r) rs (ap (λ (x : Kind). before_next x r) q) h.1)

@@ -73,26 +73,26 @@ extract_cut rules e file h =
 
 module _ {A : Type 0} (of : List (List ℕ) → A) (step : Kind → List ℕ → A → A) (each : (r : List ℕ) (rs : List (List ℕ)) → of (r ∷ rs) ≡ step (kind_of r) r (of rs))
     (closes : (r : List ℕ) (x : A) → step BatchControl r x ≡ x) (ends : (r : List ℕ) (x : A) → step FileControl r x ≡ x) where
-  over-owed : (n : ℕ) (c : Reckoning) (rs : List (List ℕ)) → of (owed n c ++ rs) ≡ of rs
+  over_owed : (n : ℕ) (c : Reckoning) (rs : List (List ℕ)) → of (owed n c ++ rs) ≡ of rs
   unfolding owed batch_control_of kind_of kind
-  over-owed zero c rs = refl
-  over-owed (suc n) c rs = each (batch_control_of c.header c.batch) rs ∙ closes _ (of rs)
+  over_owed zero c rs = refl
+  over_owed (suc n) c rs = each (batch_control_of c.header c.batch) rs ∙ closes _ (of rs)
 
-  over-before : (k : Kind) (c : Reckoning) (rs : List (List ℕ)) → of (owed_before k c ++ rs) ≡ of rs
+  over_before : (k : Kind) (c : Reckoning) (rs : List (List ℕ)) → of (owed_before k c ++ rs) ≡ of rs
   unfolding owed_before
-  over-before FileHeader c rs = refl
-  over-before BatchHeader c rs = over-owed c.batches c rs
-  over-before Individual c rs = refl
-  over-before Additional c rs = refl
-  over-before BatchControl c rs = refl
-  over-before FileControl c rs = refl
-  over-before Other c rs = refl
+  over_before FileHeader c rs = refl
+  over_before BatchHeader c rs = over_owed c.batches c rs
+  over_before Individual c rs = refl
+  over_before Additional c rs = refl
+  over_before BatchControl c rs = refl
+  over_before FileControl c rs = refl
+  over_before Other c rs = refl
 
   pub over_controls : (rs : List (List ℕ)) (c : Reckoning) → of (with_controls c rs) ≡ of rs
   unfolding with_controls ending file_control_of kind_of kind
-  over_controls [] c = over-owed c.batches c _ ∙ each _ [] ∙ ends _ (of [])
+  over_controls [] c = over_owed c.batches c _ ∙ each _ [] ∙ ends _ (of [])
   over_controls (r ∷ rs) c =
-      over-before (kind_of r) c (r ∷ with_controls (after_writing (kind_of r) c r) rs)
+      over_before (kind_of r) c (r ∷ with_controls (after_writing (kind_of r) c r) rs)
       ∙ each r (with_controls (after_writing (kind_of r) c r) rs)
       ∙ ap (step (kind_of r) r) (over_controls rs (after_writing (kind_of r) c r))
       ∙ sym (each r rs)

@@ -16,7 +16,7 @@ use Rattle.paper.specs.Kinds.{kind_of}
 use Rattle.paper.specs.Reading.{nothing_counted, counted, records_of, reading}
 use Rattle.paper.specs.Writing.{with_controls}
 use Rattle.paper.specs.Extract.{Item, Batch, Groups, prepended, grouped, batches_of, is_to, items_to, holding, batches_to, item_records, batch_records, header_for, extract}
-use Rattle.paper.specs.Demands.{items_in, items_of, carried_by, carried, addressee, SharedOut, nothing_left, next-goes}
+use Rattle.paper.specs.Demands.{items_in, items_of, carried_by, carried, addressee, SharedOut, nothing_left, next_goes}
 use Rattle.paper.proofs.Facts.{Facts, AllFacts, file_facts, file_shaped}
 use Rattle.paper.proofs.Grouping.{extract_good}
 use Rattle.paper.proofs.Regrouping.{extract_cut, renumbered, extract_batches}
@@ -120,7 +120,7 @@ passed e i is n = rw (ne_eqb (addressee i) e (λ q. n (sym q)))
 to_share : (rules : Rules) (is : List Item) → AllListed rules is → SharedOut rules.roster is (λ e. items_to e is)
 unfolding items_to
 to_share rules [] a = nothing_left (λ e. refl)
-to_share rules (i ∷ is) a = next-goes a.0 a.1 (taken (addressee i) i is refl) (λ e n. passed e i is n) (to_share rules is a.2)
+to_share rules (i ∷ is) a = next_goes a.0 a.1 (taken (addressee i) i is refl) (λ e n. passed e i is n) (to_share rules is a.2)
 
 -- hands that hold the same share out the same
 pub same_hands : {roster : List Bool} {is : List Item} {hands others : ℕ → List Item} → ((e : ℕ) → hands e ≡ others e)
@@ -131,7 +131,7 @@ same_hands {roster} {is} q h = subst (SharedOut roster is) (λ i e. q e i) h
 pub nobody_gets : {roster : List Bool} {is : List Item} {hands : ℕ → List Item} → SharedOut roster is hands
     → (e : ℕ) → (T (within 1 499 e) → T (get_or roster e false) → ⊥) → hands e ≡ []
 nobody_gets (nothing_left q) e n = q e
-nobody_gets {roster} (next-goes {i} w l q others h) e n =
+nobody_gets {roster} (next_goes {i} w l q others h) e n =
     others e (λ (p : e ≡ addressee i). n (subst (λ (x : ℕ). T (within 1 499 x)) (sym p) w) (subst (λ (x : ℕ). T (get_or roster x false)) (sym p) l))
     ∙ nobody_gets h e n
 

@@ -205,7 +205,7 @@ addressee i = destination_in i.individual
 -- items dealt to entities: each in turn is the first of what its addressee, an entity on the roster, still has to get, and of nobody else's
 pub data SharedOut (roster : List Bool) : List Item → (ℕ → List Item) → Type 0 where
   nothing_left : {hands : ℕ → List Item} → ((e : ℕ) → hands e ≡ []) → SharedOut roster [] hands
-  next-goes : {i : Item} {is : List Item} {hands later : ℕ → List Item} → T (within 1 499 (addressee i)) → T (get_or roster (addressee i) false)
+  next_goes : {i : Item} {is : List Item} {hands later : ℕ → List Item} → T (within 1 499 (addressee i)) → T (get_or roster (addressee i) false)
       → hands (addressee i) ≡ i ∷ later (addressee i)
       → ((e : ℕ) → (e ≡ addressee i → ⊥) → hands e ≡ later e)
       → SharedOut roster is later → SharedOut roster (i ∷ is) hands

@@ -35,34 +35,34 @@ record Told (file : List ℕ) (n : Notes) : Type 0 where
   waits : length (waiting n.stage) ≡ headers_among file (waiting n.stage)
 
 module _ (e : ℕ) (file : List ℕ) (place : ℕ) (n : Notes) (t : Told file n) where
-  goes-told : one (kind_of (record_at file place)) ≡ 0 → Told file (record_goes place n)
+  goes_told : one (kind_of (record_at file place)) ≡ 0 → Told file (record_goes place n)
   unfolding waiting
-  goes-told z =
+  goes_told z =
       let all : List ℕ = n.gone ++ waiting n.stage in
       record { gone = omega (arith, t.gone, t.waits, z, among_append file all (place ∷ []), among_append file n.gone (waiting n.stage)); waits = refl }
 
-  by-told : (k : Kind) → kind_of (record_at file place) ≡ k → Told file (notes_by e k place (record_at file place) n)
+  by_told : (k : Kind) → kind_of (record_at file place) ≡ k → Told file (notes_by e k place (record_at file place) n)
   unfolding notes_by waiting
-  by-told FileHeader q = t
-  by-told BatchHeader q = record { gone = t.gone; waits = rw q refl }
-  by-told Individual q = go (is_to e (record_at file place)) refl
+  by_told FileHeader q = t
+  by_told BatchHeader q = record { gone = t.gone; waits = rw q refl }
+  by_told Individual q = go (is_to e (record_at file place)) refl
     where
       go : (b : Bool) → is_to e (record_at file place) ≡ b → Told file (notes_by e Individual place (record_at file place) n)
-      go true i = rw i (goes-told (rw q refl))
+      go true i = rw i (goes_told (rw q refl))
       go false i = rw i record { gone = t.gone; waits = t.waits }
-  by-told Additional q = go (is_going n.stage) refl
+  by_told Additional q = go (is_going n.stage) refl
     where
       go : (b : Bool) → is_going n.stage ≡ b → Told file (notes_by e Additional place (record_at file place) n)
-      go true i = rw i (goes-told (rw q refl))
+      go true i = rw i (goes_told (rw q refl))
       go false i = rw i t
-  by-told BatchControl q = t
-  by-told FileControl q = t
-  by-told Other q = t
+  by_told BatchControl q = t
+  by_told FileControl q = t
+  by_told Other q = t
 
 told : (e : ℕ) (file : List ℕ) (place : ℕ) → Told file (notes_after e file place)
 unfolding notes_after notes_with waiting
 told e file zero = record { gone = refl; waits = refl }
-told e file (suc place) = by-told e file place (notes_after e file place) (told e file place) (kind_of (record_at file place)) refl
+told e file (suc place) = by_told e file place (notes_after e file place) (told e file place) (kind_of (record_at file place)) refl
 
 pub headers_among_lem : (e : ℕ) (file : List ℕ) → headers_to e file ≡ headers_among file (goes_to e file)
 headers_among_lem e file = (told e file (length file / 94)).gone

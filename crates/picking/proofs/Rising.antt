@@ -98,11 +98,11 @@ in_hand_fits {place} {n} o h =
     }
 
 module _ (e : ℕ) (file : List ℕ) where
-  all-ordered : Ordered (length file / 94) (notes_after e file (length file / 94))
-  all-ordered = notes_ordered e file (length file / 94)
+  all_ordered : Ordered (length file / 94) (notes_after e file (length file / 94))
+  all_ordered = notes_ordered e file (length file / 94)
 
   pub goes_rise : Rises 0 (length file / 94) (goes_to e file)
-  goes_rise = rises_front 0 (length file / 94) (goes_to e file) _ all-ordered.rises
+  goes_rise = rises_front 0 (length file / 94) (goes_to e file) _ all_ordered.rises
 
   pub goes_placed : 94 ≤ length file → Placed file (goes_to e file)
   goes_placed l = rises_placed file 0 (length file / 94) (goes_to e file) l (omega arith) goes_rise
@@ -111,4 +111,4 @@ module _ (e : ℕ) (file : List ℕ) where
   goes_few = omega (arith, rises_few 0 (length file / 94) (goes_to e file) goes_rise)
 
   pub headers_fewer : headers_to e file ≤ length (goes_to e file)
-  headers_fewer = all-ordered.headers
+  headers_fewer = all_ordered.headers

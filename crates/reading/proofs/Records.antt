@@ -21,7 +21,7 @@ use Rattle.paper.proofs.Tests.{not_both, T_of, of_T}
 use Rattle.paper.proofs.Digits.{every_append}
 use Rattle.paper.proofs.Every.{every_drop, every_take}
 use Rattle.paper.proofs.Exactly.{wrong_not_fine}
-use Rattle.paper.proofs.Accepted.{Follows, follows, file-begins, batch-opens, file-ends, first-individual, its-additional, next_individual, batch-closes}
+use Rattle.paper.proofs.Accepted.{Follows, follows, file_begins, batch_opens, file_ends, first_individual, its_additional, next_individual, batch_closes}
 use Rattle.state.specs.declared.State.{State}
 use Rattle.state.specs.declared.Step.{Step}
 use Rattle.state.specs.States.{meant, stops, after_record, stepped, Preceded, StandsAfter, Arrived, Ready, Steps}
@@ -67,13 +67,13 @@ all_tested file front c e =
 -- what stands before a record, by its kind
 stands_before : {b : Before} {k : Kind} (place : ℕ) (st : State) → Follows b k → Preceded b place st → StandsAfter k place st
 unfolding Preceded
-stands_before place st file-begins s = tt
-stands_before place st batch-opens s = tt
-stands_before place st file-ends s = tt
-stands_before place st first-individual s = s
-stands_before place st its-additional s = s
+stands_before place st file_begins s = tt
+stands_before place st batch_opens s = tt
+stands_before place st file_ends s = tt
+stands_before place st first_individual s = s
+stands_before place st its_additional s = s
 stands_before place st next_individual s = s
-stands_before place st batch-closes s = s
+stands_before place st batch_closes s = s
 
 -- what a record's step asks, where its type may stand
 pub ready : {file : List ℕ} {place : ℕ} {st : State} {kind : Kind} → Arrived file place st → kind_of (record_at file place) ≡ kind

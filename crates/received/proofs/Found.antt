@@ -26,7 +26,7 @@ use Rattle.paper.specs.Demands.{Faultless}
 use Rattle.paper.proofs.Tests.{of_T}
 use Rattle.paper.proofs.Lists.{Sized}
 use Rattle.paper.proofs.Exactly.{also_l, also_r, need_T}
-use Rattle.paper.proofs.Accepted.{control_read, total_read, Follows, file-begins, batch-opens, file-ends, first-individual, its-additional, next_individual, batch-closes, Judged, judged_facts, accepted_facts}
+use Rattle.paper.proofs.Accepted.{control_read, total_read, Follows, file_begins, batch_opens, file_ends, first_individual, its_additional, next_individual, batch_closes, Judged, judged_facts, accepted_facts}
 use Rattle.paper.proofs.Spelling.{spells_below}
 use Rattle.received.proofs.Written.{Fits}
 use Rattle.received.proofs.Tallies.{noted, tallied, totalled}
@@ -154,13 +154,13 @@ module _ (rules : Rules) (s : State) (r : List ℕ) (l : length r ≡ 94) (g : G
 
   back : (w : Before) (k : Kind) → Follows w k → Back w k
   unfolding before_next last_individual counted prepended
-  back w k file-begins q f a = record { additionals = a.additionals; items = a.items; batches = a.batches; total = a.total }
-  back w k batch-opens q f a = opened q f a
-  back w k file-ends q f a = ended q f a
-  back w k first-individual q f a = entered q f a
-  back w k its-additional q f a = added q f a
+  back w k file_begins q f a = record { additionals = a.additionals; items = a.items; batches = a.batches; total = a.total }
+  back w k batch_opens q f a = opened q f a
+  back w k file_ends q f a = ended q f a
+  back w k first_individual q f a = entered q f a
+  back w k its_additional q f a = added q f a
   back w k next_individual q f a = entered q f a
-  back w k batch-closes q f a = closed q f a
+  back w k batch_closes q f a = closed q f a
 
 ahead : (rules : Rules) (rs : List (List ℕ)) (s : State) → Sized 94 rs → Faultless (in_house rules) s rs → Ahead rules s.before s (grouped rs)
 unfolding grouped next

@@ -25,18 +25,18 @@ use Rattle.received.proofs.Written.{good_part}
 -- ---- 6
 
 module _ (rules : Rules) (e : ℕ) (r : List ℕ) (to : is_to e r ≡ true) where
-  destination-handed : destination (in_house rules) (field r 4 11) ≡ fine → destination (at_desk e rules) (field r 4 11) ≡ fine
+  destination_handed : destination (in_house rules) (field r 4 11) ≡ fine → destination (at_desk e rules) (field r 4 11) ≡ fine
   unfolding destination addressed is_to
-  destination-handed h = let own : T (eqb (entity (field r 4 11)) e) = T_of to in search (fine_also, need_met, also_l, also_r) depth 6
+  destination_handed h = let own : T (eqb (entity (field r 4 11)) e) = T_of to in search (fine_also, need_met, also_l, also_r) depth 6
 
-  transfer-handed : transfer (in_house rules) r ≡ fine → transfer (at_desk e rules) r ≡ fine
+  transfer_handed : transfer (in_house rules) r ≡ fine → transfer (at_desk e rules) r ≡ fine
   unfolding transfer
-  transfer-handed h = search (fine_also, also_l, also_r, destination-handed) depth 12
+  transfer_handed h = search (fine_also, also_l, also_r, destination_handed) depth 12
 
   -- under the header of its batch, numbered anew, and after an individual record whose number is no larger
-  counter-handed : (n p q : ℕ) (header : List ℕ) → length header ≡ 94 → q ≤ p → T (counter_good header p r) → T (counter_good (numbered n header) q r)
+  counter_handed : (n p q : ℕ) (header : List ℕ) → length header ≡ 94 → q ≤ p → T (counter_good header p r) → T (counter_good (numbered n header) q r)
   unfolding counter_good numbered
-  counter-handed n p q header l o t =
+  counter_handed n p q header l o t =
       let s = same (field r 80 87) (field header 80 87) in
       rw (field_front 79 8 header (spelled 7 n) (omega arith) (omega arith))
       (and_both s (ltb q (number (field r 88 94))) (and_l s (ltb p (number (field r 88 94))) t)
@@ -47,8 +47,8 @@ module _ (rules : Rules) (e : ℕ) (r : List ℕ) (to : is_to e r ≡ true) wher
   unfolding individual
   individual_handed n p q header l o h =
       let last : T (counter_good header p r) = search (also_r, need_T) in
-      let mine = counter-handed n p q header l o last in
-      search (fine_also, need_met, also_l, also_r, transfer-handed) depth 20
+      let mine = counter_handed n p q header l o last in
+      search (fine_also, need_met, also_l, also_r, transfer_handed) depth 20
 
 -- ---- 5
 

@@ -89,9 +89,9 @@ module _ (currency : Currency) (e : ℕ) (r : List ℕ) (l : length r ≡ 94) wh
       let ends : b + w ≤ 94 = leb→le (b + w) 94 k in
       part_at widths1 pieces1 wide1 i a m q h ∙ ap (λ (x : List ℕ). take m (drop a x)) p ∙ part_inner a m b w r (leb→le (a + m) w h) (omega arith)
 
-  heading-own : 1 ≤ e → e ≤ 499 → T (own_desk currency e (joined pieces1))
+  heading_own : 1 ≤ e → e ≤ 499 → T (own_desk currency e (joined pieces1))
   unfolding own_desk same
-  heading-own low high =
+  heading_own low high =
       let branch : take 4 (drop 8 (joined pieces1)) ≡ bytes "0000" = part_at widths1 pieces1 wide1 2 4 4 tt tt
       ∙ ap (take 4) (drop_at (spelled 4 (e + currency_adds currency)) (bytes "0000") 4 (length_spelled 4 (e + currency_adds currency))) in
       rw (made 2 tt, branch, eq-eqb (entity (own currency e)) e (own_entity currency e high), of_T (of_currency currency (own currency e)) (own_currency currency e low high)) tt
@@ -107,7 +107,7 @@ module _ (currency : Currency) (e : ℕ) (r : List ℕ) (l : length r ≡ 94) wh
       → file_header (at_desk e rules) (header_for currency e r) ≡ fine
   unfolding file_header origin_good headed same
   heading_fine rules q low high h =
-      let desk = heading-own low high in
+      let desk = heading_own low high in
       let mine : T (digits (own currency e) && true) = and_both (digits (own currency e)) true (own_digits currency e) tt in
       rw (
         made1,

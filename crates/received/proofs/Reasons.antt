@@ -23,7 +23,7 @@ use Rattle.paper.specs.Demands.{Faultless}
 use Rattle.paper.specs.Receiving.{explains, explains_at, text_at, text_in}
 use Rattle.paper.proofs.Tests.{and_l, and_r, T_of, of_T, same→eq}
 use Rattle.paper.proofs.Exactly.{also_l, also_r, need_T}
-use Rattle.paper.proofs.Accepted.{Follows, file-begins, batch-opens, file-ends, first-individual, its-additional, next_individual, batch-closes, judged_facts, first_header, facts_by}
+use Rattle.paper.proofs.Accepted.{Follows, file_begins, batch_opens, file_ends, first_individual, its_additional, next_individual, batch_closes, judged_facts, first_header, facts_by}
 use Rattle.paper.proofs.Digits.{number_bound}
 use Rattle.paper.proofs.Places.{parts_from}
 use Rattle.paper.proofs.Pieces.{part_inner}
@@ -60,13 +60,13 @@ announced s r = go (kind_of r) refl
     go Other q e = never cc
 
 only_flagged : (b : Before) (k : Kind) → Follows b k → k ≡ Additional → b ≡ Flagged
-only_flagged b k file-begins e = never cc
-only_flagged b k batch-opens e = never cc
-only_flagged b k file-ends e = never cc
-only_flagged b k first-individual e = never cc
-only_flagged b k its-additional e = refl
+only_flagged b k file_begins e = never cc
+only_flagged b k batch_opens e = never cc
+only_flagged b k file_ends e = never cc
+only_flagged b k first_individual e = never cc
+only_flagged b k its_additional e = refl
 only_flagged b k next_individual e = never cc
-only_flagged b k batch-closes e = never cc
+only_flagged b k batch_closes e = never cc
 
 added : (rules : ReadingRules) (rs : List (List ℕ)) (s : State) (p : List ℕ) → Announced p s → Faultless rules s rs → Added p rs
 unfolding fields
@@ -135,10 +135,10 @@ module _ (rules : ReadingRules) (file : List ℕ) (h : reading_by rules file ≡
   first_kind : kind_of (take 94 file) ≡ FileHeader
   first_kind = let a = facts_by rules file h in first_header rules (take 94 file) a.first.0 (rw a.first.1 at a.reads)
 
-  after-it : (place : ℕ) → place < length file / 94 → kind_of (record_at file place) ≡ Additional → After (record_at file (place - 1)) (record_at file place)
+  after_it : (place : ℕ) → place < length file / 94 → kind_of (record_at file place) ≡ Additional → After (record_at file (place - 1)) (record_at file place)
   unfolding record_at records_of start
-  after-it zero l k = let e = sym first_kind ∙ k in never cc
-  after-it (suc i) l k =
+  after_it zero l k = let e = sym first_kind ∙ k in never cc
+  after_it (suc i) l k =
       let n : ℕ = length file / 94 in
       let a = added_from i [] (records_of file) (added rules (records_of file) start [] (λ e. never cc) (facts_by rules file h).reads) in
       let x : Added a.0 (record_at file i ∷ drop (suc i) (records_of file)) = subst (Added a.0) (parts_from 94 n file i (omega arith)) a.1 in
@@ -153,19 +153,19 @@ module _ (rules : ReadingRules) (file : List ℕ) (h : reading_by rules file ≡
         ↔ ((place < length file / 94) × (kind_of (record_at file place) ≡ Additional) × T (is (field (record_at file place) 2 3) "99"))
     unfolding explains_at explains
     explains_exactly = (
-      (λ e. let x = explains_at_lem file place e in (x.0, x.1, ((rejection _ _ (after-it place x.0 x.1).1).0 x.2).form)),
-      λ x. rw (lt-ltb place (length file / 94) x.0, x.1) ((rejection _ _ (after-it place x.0 x.1).1).1 x.2),
+      (λ e. let x = explains_at_lem file place e in (x.0, x.1, ((rejection _ _ (after_it place x.0 x.1).1).0 x.2).form)),
+      λ x. rw (lt-ltb place (length file / 94) x.0, x.1) ((rejection _ _ (after_it place x.0 x.1).1).1 x.2),
     )
 
     -- it stands after a 6 with 36 or 31, and has R in 4 and a number in 5-6
     pub explains_after : explains_at file place ≡ true
         → (kind_of (record_at file (place - 1)) ≡ Individual) × (rejects (code_of (record_at file (place - 1))) ≡ true)
-    explains_after e = let x = explains_at_lem file place e in ((after-it place x.0 x.1).0, x.2)
+    explains_after e = let x = explains_at_lem file place e in ((after_it place x.0 x.1).0, x.2)
 
     pub explains_number : explains_at file place ≡ true → T (is (field (record_at file place) 4 4) "R") × T (digits (field (record_at file place) 5 6))
     explains_number e =
         let x = explains_at_lem file place e in
-        let m = ((rejection _ _ (after-it place x.0 x.1).1).0 x.2).motive in
+        let m = ((rejection _ _ (after_it place x.0 x.1).1).0 x.2).motive in
         (and_l (is (field (record_at file place) 4 4) "R") _ m, and_r (is (field (record_at file place) 4 4) "R") _ m)
 
 -- ---- the text of a reason

@@ -43,11 +43,11 @@ module _ (rules : Rules) (e : ℕ) (header : List ℕ) (n : ℕ) (c : Tally) whe
   There t w p ns b = Stands (numbered n header) n c t w p ns b
 
   -- the additionals of an individual record
-  additionals-run : (r : List ℕ) (xs rs : List (List ℕ)) (t : State) (w : Bool) (p : ℕ) (ns : List ℕ) (b : Tally) → There t (flag w) p ns b → t.individual ≡ r → Followed w r xs
+  additionals_run : (r : List ℕ) (xs rs : List (List ℕ)) (t : State) (w : Bool) (p : ℕ) (ns : List ℕ) (b : Tally) → There t (flag w) p ns b → t.individual ≡ r → Followed w r xs
       → ((u : State) → There u Inside p ns (noted b xs) → Runs (at_desk e rules) u rs) → Runs (at_desk e rules) t (xs ++ rs)
   unfolding flag noted owed_before settled_before counted allowed fields before_next
-  additionals-run r [] rs t w p ns b s o f later = later t (subst (λ (x : Bool). There t (flag x) p ns b) f s)
-  additionals-run r (x ∷ xs) rs t w p ns b s o f later =
+  additionals_run r [] rs t w p ns b s o f later = later t (subst (λ (x : Bool). There t (flag x) p ns b) f s)
+  additionals_run r (x ∷ xs) rs t w p ns b s o f later =
       let before : t.before ≡ Flagged = s.before ∙ ap flag f.0 in
       rw f.4
       (step (at_desk e rules) t x rs Additional f.1 refl refl refl refl (judged_fine (at_desk e rules) t x Additional f.1 f.2 (rw before refl) (rw o f.3))
@@ -62,12 +62,12 @@ module _ (rules : Rules) (e : ℕ) (header : List ℕ) (n : ℕ) (c : Tally) whe
       }))))
 
   -- an item
-  item-run : (i : Item) (rs : List (List ℕ)) (t : State) (w : Before) (p : ℕ) (ns : List ℕ) (b : Tally) → There t w p ns b → allowed w Individual ≡ fine
+  item_run : (i : Item) (rs : List (List ℕ)) (t : State) (w : Before) (p : ℕ) (ns : List ℕ) (b : Tally) → There t w p ns b → allowed w Individual ≡ fine
       → ItemRead (OpensAt rules e) (ReadsAt rules e) header p ns i
       → ((u : State) → There u Inside (number_in i.individual) (number_in i.individual ∷ ns) (tallied b (i ∷ [])) → Runs (at_desk e rules) u rs)
       → Runs (at_desk e rules) t (i.individual ∷ (i.additionals ++ rs))
   unfolding tallied owed_before settled_before counted fields before_next last_individual
-  item-run i rs t w p ns b s a h later =
+  item_run i rs t w p ns b s a h later =
       let r : List ℕ = i.individual in
       let new : T (not (among t.seen (number_in r))) = rw (s.seen, h.new) tt in
       let reads : fields Individual (at_desk e rules) t r ≡ fine = fine_also _ _ (rw (s.header, s.counter) (h.reads n)) (need_met _ 27 new) in
@@ -82,23 +82,23 @@ module _ (rules : Rules) (e : ℕ) (header : List ℕ) (n : ℕ) (c : Tally) whe
         closed = s.closed;
       } in
       step (at_desk e rules) t r (i.additionals ++ rs) Individual h.kind refl refl refl refl judged
-      (additionals-run r i.additionals rs (state_next Individual t r) (flagged_in r) (number_in r) (number_in r ∷ ns) (with_individual b r) there refl h.followed later)
+      (additionals_run r i.additionals rs (state_next Individual t r) (flagged_in r) (number_in r) (number_in r ∷ ns) (with_individual b r) there refl h.followed later)
 
-  inside-filled : (is : List Item) → Filled Inside is
-  inside-filled [] = refl
-  inside-filled (i ∷ is) = tt
+  inside_filled : (is : List Item) → Filled Inside is
+  inside_filled [] = refl
+  inside_filled (i ∷ is) = tt
 
   -- items, to where the batch may close
-  items-run : (is : List Item) (rs : List (List ℕ)) (t : State) (w : Before) (p : ℕ) (ns : List ℕ) (b : Tally) → There t w p ns b → allowed w Individual ≡ fine → Filled w is
+  items_run : (is : List Item) (rs : List (List ℕ)) (t : State) (w : Before) (p : ℕ) (ns : List ℕ) (b : Tally) → There t w p ns b → allowed w Individual ≡ fine → Filled w is
       → ItemsRead (OpensAt rules e) (ReadsAt rules e) header p ns is
       → ((u : State) (q : ℕ) → There u Inside q (seen_after ns is) (tallied b is) → Runs (at_desk e rules) u rs)
       → Runs (at_desk e rules) t (item_records is ++ rs)
   unfolding item_records tallied seen_after allowed
-  items-run [] rs t w p ns b s a o h later = later t p (subst (λ (x : Before). There t x p ns b) o s)
-  items-run (i ∷ is) rs t w p ns b s a o h later =
+  items_run [] rs t w p ns b s a o h later = later t p (subst (λ (x : Before). There t x p ns b) o s)
+  items_run (i ∷ is) rs t w p ns b s a o h later =
       let next : ℕ = number_in i.individual in
       rw (append_assoc i.additionals (item_records is) rs)
-      (item-run i (item_records is ++ rs) t w p ns b s a h.0 (λ u v. items-run is rs u Inside next (next ∷ ns) (tallied b (i ∷ [])) v refl (inside-filled is) h.1 later))
+      (item_run i (item_records is ++ rs) t w p ns b s a h.0 (λ u v. items_run is rs u Inside next (next ∷ ns) (tallied b (i ∷ [])) v refl (inside_filled is) h.1 later))
 
 -- ---- batches
 
@@ -144,6 +144,6 @@ batches_run rules e (b ∷ bs) t ns n c s h f =
     let k : kind_of r ≡ BatchHeader = kind_numbered (suc n) b.header (omega arith) ∙ h.0.whole.0 in
     head (at_desk e rules) t r (item_records b.items ++ batch_records (suc n) bs) k s.ready (good_numbered (suc n) b.header h.0.good)
     (λ lt. rw s.batches (h.0.opens.1 n (omega arith)))
-    (λ u o q. items-run rules e b.header (suc n) c b.items (batch_records (suc n) bs) (state_next BatchHeader u r) Opened 0 ns zeros (opened t u r ns n c s o q) refl h.0.opens.0 h.0.items
+    (λ u o q. items_run rules e b.header (suc n) c b.items (batch_records (suc n) bs) (state_next BatchHeader u r) Opened 0 ns zeros (opened t u r ns n c s o q) refl h.0.opens.0 h.0.items
     (λ v q x. batches_run rules e bs v (seen_after ns b.items) (suc n) (plus c (tallied zeros b.items))
     (reached b.header n q (seen_after ns b.items) c (tallied zeros b.items) v l h.0.good h.0.fits x) h.1 f))

@@ -51,8 +51,8 @@ module _ {file pages₀ seen₀ : List ℕ} {page from : ℕ} {pages seen : List
   page_there seven = rw h.wide ((div-lt_iff_lt-mul h.room.some).1 (lt_of_lt_of_le seven h.room.all))
 
   -- the pages of so many records are in the row
-  pages-fit : {most : ℕ} → most ≤ place + 1 → place < length file / 94 → most * page ≤ length seen * 8
-  pages-fit few u = rw h.long (le_trans (mul-le-mul_right page (omega arith)) h.room.enough)
+  pages_fit : {most : ℕ} → most ≤ place + 1 → place < length file / 94 → most * page ≤ length seen * 8
+  pages_fit few u = rw h.long (le_trans (mul-le-mul_right page (omega arith)) h.room.enough)
 
   pub ready_there : {n : ℕ} → (get_or pages (n / page) 0 ≡ 0 → ⊥) → Ready file pages₀ page pages seen taken place n
   ready_there {n} d = record { some = omega (arith, d); few = omega (arith, h.few); wide = h.wide; set = h.set }
@@ -60,7 +60,7 @@ module _ {file pages₀ seen₀ : List ℕ} {page from : ℕ} {pages seen : List
   pub ready_taken : {n : ℕ} → n < 10000000 → place < length file / 94 → get_or pages (n / page) 0 ≡ 0
       → Ready file pages₀ page (set pages (n / page) (taken + 1)) seen (taken + 1) place n
   ready_taken {n} seven u z =
-      let r : (taken + 1) * page ≤ length seen * 8 = pages-fit (omega (arith, h.few)) u in
+      let r : (taken + 1) * page ≤ length seen * 8 = pages_fit (omega (arith, h.few)) u in
       record {
         some = taken_there page h.set (n / page) (page_there seven) z r;
         few = omega (arith, h.few);
@@ -88,7 +88,7 @@ module _ {file pages₀ seen₀ : List ℕ} {page from : ℕ} {pages seen : List
   -- at a number whose page is taken
   module _ {pages₁ : List ℕ} {taken₁ n : ℕ} (r : Ready file pages₀ page pages₁ seen taken₁ place n) where
     pub bit_bound : place < length file / 94 → bit_for page pages₁ n < length seen * 8
-    bit_bound u = lt_of_lt_of_le (bit_below page r.set n r.some) (pages-fit r.few u)
+    bit_bound u = lt_of_lt_of_le (bit_below page r.set n r.some) (pages_fit r.few u)
 
     -- and so is all that its bit is reckoned from
     module _ (few : length file / 94 ≤ 10000) (u : place < length file / 94) where

@@ -53,17 +53,17 @@ module _ (page : ℕ) where
     pub held : (n : ℕ) → n < 10000000 → held_in pages seen n ≡ among xs n
 
   -- of a number whose page is taken
-  held-there : (pages seen : List ℕ) (n : ℕ) → 0 < page_of pages n → held_in pages seen n ≡ has_bit seen (bit_for pages n)
+  held_there : (pages seen : List ℕ) (n : ℕ) → 0 < page_of pages n → held_in pages seen n ≡ has_bit seen (bit_for pages n)
   unfolding held_in
-  held-there pages seen n some = rw (lt-ltb 0 (page_of pages n) some) refl
+  held_there pages seen n some = rw (lt-ltb 0 (page_of pages n) some) refl
 
-  not-held : (pages seen : List ℕ) (n : ℕ) → page_of pages n ≡ 0 → held_in pages seen n ≡ false
+  not_held : (pages seen : List ℕ) (n : ℕ) → page_of pages n ≡ 0 → held_in pages seen n ≡ false
   unfolding held_in
-  not-held pages seen n none = rw none refl
+  not_held pages seen n none = rw none refl
 
-  same-page : (pages after seen : List ℕ) (n : ℕ) → page_of after n ≡ page_of pages n → held_in after seen n ≡ held_in pages seen n
+  same_page : (pages after seen : List ℕ) (n : ℕ) → page_of after n ≡ page_of pages n → held_in after seen n ≡ held_in pages seen n
   unfolding held_in
-  same-page pages after seen n e = ap (λ (p : ℕ). ltb 0 p && has_bit seen ((p - 1) * page + n % page)) e
+  same_page pages after seen n e = ap (λ (p : ℕ). ltb 0 p && has_bit seen ((p - 1) * page + n % page)) e
 
   -- nothing is taken
   pub none_taken : {pages seen : List ℕ} {most : ℕ} → RoomFor pages seen page most → Paged pages seen 0 []
@@ -73,7 +73,7 @@ module _ (page : ℕ) where
     most = λ i. omega (arith, room.none i);
     apart = λ i j h q. absurd (omega (arith, room.none i));
     clear = λ x a b. room.empty x b;
-    held = λ n b. not-held pages seen n (room.none (n / page));
+    held = λ n b. not_held pages seen n (room.none (n / page));
   }
 
   module _ {pages seen xs : List ℕ} {taken : ℕ} (h : Paged pages seen taken xs) where
@@ -88,15 +88,15 @@ module _ (page : ℕ) where
       off : (j : ℕ) → (j ≡ i → ⊥) → get_or after j 0 ≡ get_or pages j 0
       off j d = get_or-set_other pages i j (taken + 1) 0 d
 
-      most-after : (j : ℕ) → get_or after j 0 ≤ taken + 1
-      most-after j = by (eqb j i) refl
+      most_after : (j : ℕ) → get_or after j 0 ≤ taken + 1
+      most_after j = by (eqb j i) refl
         where
           by : (t : Bool) → eqb j i ≡ t → get_or after j 0 ≤ taken + 1
           by true q = rw (eqb-true j i q) (omega (arith, at))
           by false q = omega (arith, off j (eqb-false j i q), h.most j)
 
-      apart-after : (j k : ℕ) → 0 < get_or after j 0 → get_or after j 0 ≡ get_or after k 0 → j ≡ k
-      apart-after j k some same = by (eqb j i) refl (eqb k i) refl
+      apart_after : (j k : ℕ) → 0 < get_or after j 0 → get_or after j 0 ≡ get_or after k 0 → j ≡ k
+      apart_after j k some same = by (eqb j i) refl (eqb k i) refl
         where
           by : (t : Bool) → eqb j i ≡ t → (u : Bool) → eqb k i ≡ u → j ≡ k
           by true q true r = eqb-true j i q ∙ sym (eqb-true k i r)
@@ -122,14 +122,14 @@ module _ (page : ℕ) where
               let before : page_of pages n ≡ 0 = ap (λ (m : ℕ). get_or pages m 0) e ∙ none in
               let bit : bit_for after n ≡ taken * page + n % page = ap (λ (m : ℕ). (m - 1) * page + n % page) now ∙ ap (λ (m : ℕ). m * page + n % page) (let z : taken + 1 - 1 ≡ taken = omega arith in z) in
               let below : taken * page + n % page < (taken + 1) * page = digits_lt (omega arith) (mod-lt n h.some) in
-              held-there after seen n (omega arith) ∙ h.clear (bit_for after n) (omega arith) (omega arith) ∙ sym (not-held pages seen n before)
-          by false q = same-page pages after seen n (off (n / page) (eqb-false (n / page) i q))
+              held_there after seen n (omega arith) ∙ h.clear (bit_for after n) (omega arith) (omega arith) ∙ sym (not_held pages seen n before)
+          by false q = same_page pages after seen n (off (n / page) (eqb-false (n / page) i q))
 
       pub page_taken : Paged after seen (taken + 1) xs
       page_taken = record {
         some = h.some;
-        most = most-after;
-        apart = apart-after;
+        most = most_after;
+        apart = apart_after;
         clear = λ x a b. let l : taken * page ≤ (taken + 1) * page = mul-le-mul_right page (omega arith) in h.clear x (omega arith) b;
         held = λ n b. held_after n ∙ h.held n b;
       }
@@ -140,21 +140,21 @@ module _ (page : ℕ) where
     -- at a number whose page is taken
     module _ (n : ℕ) (some : 0 < page_of pages n) where
       pub told : n < 10000000 → among xs n ≡ has_bit seen (bit_for pages n)
-      told seven = sym (h.held n seven) ∙ held-there pages seen n some
+      told seven = sym (h.held n seven) ∙ held_there pages seen n some
 
       pub bit_below : bit_for pages n < taken * page
       bit_below = let m : page_of pages n ≤ taken = h.most (n / page) in digits_lt (omega arith) (mod-lt n h.some)
 
       same_number : (k : ℕ) → 0 < page_of pages k → bit_for pages k ≡ bit_for pages n → k ≡ n
       same_number k there e =
-          let k-low = mod-lt k h.some in
-          let n-low = mod-lt n h.some in
+          let k_low = mod-lt k h.some in
+          let n_low = mod-lt n h.some in
           let p : page_of pages k - 1 ≡ page_of pages n - 1 =
-          sym (digits_div (page_of pages k - 1) k-low) ∙ ap (λ (x : ℕ). x / page) e ∙ digits_div (page_of pages n - 1) n-low
+          sym (digits_div (page_of pages k - 1) k_low) ∙ ap (λ (x : ℕ). x / page) e ∙ digits_div (page_of pages n - 1) n_low
           in
           let q : k / page ≡ n / page = h.apart (k / page) (n / page) there (omega arith) in
           let r : k % page ≡ n % page =
-          sym (digits_mod (page_of pages k - 1) k-low) ∙ ap (λ (x : ℕ). x % page) e ∙ digits_mod (page_of pages n - 1) n-low
+          sym (digits_mod (page_of pages k - 1) k_low) ∙ ap (λ (x : ℕ). x % page) e ∙ digits_mod (page_of pages n - 1) n_low
           in
           sym (div-add-mod' k page) ∙ rw (q, r) (div-add-mod' n page)
 
@@ -171,7 +171,7 @@ module _ (page : ℕ) where
       stays t = record { some = h.some; most = h.most; apart = h.apart; clear = h.clear; held = λ k b. by k b (eqb k n) refl }
         where
           by : (k : ℕ) → k < 10000000 → (i : Bool) → eqb k n ≡ i → held_in pages seen k ≡ among (n ∷ xs) k
-          by k b true q = rw (q, eqb-true k n q) (held-there pages seen n some ∙ t)
+          by k b true q = rw (q, eqb-true k n q) (held_there pages seen n some ∙ t)
           by k b false q = rw q (h.held k b)
 
       pub put_in : (then : List ℕ) → length then ≡ length seen → ((k : ℕ) → has_bit then k ≡ (eqb k (bit_for pages n) || has_bit seen k))
@@ -188,9 +188,9 @@ module _ (page : ℕ) where
           by : (k : ℕ) → k < 10000000 → (i : Bool) → ltb 0 (page_of pages k) ≡ i → held_in pages then k ≡ among (n ∷ xs) k
           by k b true q =
               let there = ltb-true 0 (page_of pages k) q in
-              held-there pages then k there ∙ put (bit_for pages k)
-              ∙ rw (same_bits k there) (ap (λ (y : Bool). eqb k n || y) (sym (held-there pages seen k there) ∙ h.held k b))
+              held_there pages then k there ∙ put (bit_for pages k)
+              ∙ rw (same_bits k there) (ap (λ (y : Bool). eqb k n || y) (sym (held_there pages seen k there) ∙ h.held k b))
           by k b false q =
               let none : page_of pages k ≡ 0 = omega (arith, ltb-false 0 (page_of pages k) q) in
               let other : k ≡ n → ⊥ = λ e. absurd (omega (arith, ap (page_of pages) e)) in
-              not-held pages then k none ∙ rw (ne_eqb k n other) (sym (not-held pages seen k none) ∙ h.held k b)
+              not_held pages then k none ∙ rw (ne_eqb k n other) (sym (not_held pages seen k none) ∙ h.held k b)

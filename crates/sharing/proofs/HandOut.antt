@@ -13,7 +13,7 @@ use Rattle.paper.specs.Answers.{accepted}
 use Rattle.paper.specs.Fields.{within}
 use Rattle.paper.specs.Reading.{parts, records_of, reading}
 use Rattle.paper.specs.Extract.{Item, Batch, grouped, batches_of, items_to, batches_to, item_records, extract}
-use Rattle.paper.specs.Demands.{items_in, items_of, carried, SharedOut, nothing_left, next-goes}
+use Rattle.paper.specs.Demands.{items_in, items_of, carried, SharedOut, nothing_left, next_goes}
 use Rattle.paper.proofs.Tests.{T_of, of_T}
 use Rattle.paper.proofs.Size.{extract_length, extract_fits}
 use Rattle.paper.proofs.Shared as paper-shared
@@ -31,8 +31,8 @@ use Rattle.sharing.proofs.Shares.{addressed_exactly, none_to, by, bytes_exactly,
 dealt_listed : {roster : List Bool} {is : List Item} {hands : ℕ → List Item} → SharedOut roster is hands → (e : ℕ) → Addressed e is
     → T (within 1 499 e) × T (get_or roster e false)
 dealt_listed (nothing_left q) e a = absurd a
-dealt_listed {roster} (next-goes {i} w l q others h) e (inl p) = subst (λ (x : ℕ). T (within 1 499 x) × T (get_or roster x false)) p (w, l)
-dealt_listed (next-goes w l q others h) e (inr a) = dealt_listed h e a
+dealt_listed {roster} (next_goes {i} w l q others h) e (inl p) = subst (λ (x : ℕ). T (within 1 499 x) × T (get_or roster x false)) p (w, l)
+dealt_listed (next_goes w l q others h) e (inr a) = dealt_listed h e a
 
 -- so is everybody that an accepted file has an item to
 pub addressed_listed : (s : Session) (file : List ℕ) → reading (rules_of s) file ≡ accepted → (e : ℕ) → Addressed e (items_of file)
@@ -109,31 +109,31 @@ module _ (s : Session) (file : List ℕ) (before after : ℕ → List ℕ) (r : 
       let l = some_to e file y in
       omega (arith, (written_held e w p).2, extract_length (rules_of s) e file reads, some_batch e (batches_of file) l, some_record (items_to e (items_of file)) l)
 
-  is-extract : (e : ℕ) → holds_to e file ≡ true → written_for r after e ≡ extract s.currency e file
+  is_extract : (e : ℕ) → holds_to e file ≡ true → written_for r after e ≡ extract s.currency e file
   unfolding written_for
-  is-extract e y =
+  is_extract e y =
       let a = (addressed_exactly e file).1 y in
       let w = (addressed_listed s file reads e a).0 in
       rw (of_T (within 1 499 e) w) (written_held e w ((written_exactly e w).1 a)).1
 
-  is-empty : (e : ℕ) → holds_to e file ≡ false → written_for r after e ≡ []
+  is_empty : (e : ℕ) → holds_to e file ≡ false → written_for r after e ≡ []
   unfolding written_for bytes_of
-  is-empty e y = by (within 1 499 e) (λ w. rw (w, (gets_nothing (rules_of s) e file (before e) (r e) (after e) (calls e (T_of w)) y).0)) (λ w. rw w)
+  is_empty e y = by (within 1 499 e) (λ w. rw (w, (gets_nothing (rules_of s) e file (before e) (r e) (after e) (calls e (T_of w)) y).0)) (λ w. rw w)
 
-  in-hand : (e : ℕ) → items_of (extract s.currency e file) ≡ items_of (written_for r after e)
-  in-hand e =
+  in_hand : (e : ℕ) → items_of (extract s.currency e file) ≡ items_of (written_for r after e)
+  in_hand e =
       by (holds_to e file)
-      (λ y. ap items_of (sym (is-extract e y)))
-      (λ y. extract_items (rules_of s) e file reads ∙ none_to e file y ∙ sym (ap items_of (is-empty e y) ∙ no_items))
+      (λ y. ap items_of (sym (is_extract e y)))
+      (λ y. extract_items (rules_of s) e file reads ∙ none_to e file y ∙ sym (ap items_of (is_empty e y) ∙ no_items))
 
   -- each individual record with its additionals stands in exactly one of the files written, its addressee's, in the file's order
   -- (not so with a file for its sender too, or with the next entity's extract under an entity's name)
   pub shared_out : SharedOut s.roster (items_of file) (λ e. items_of (written_for r after e))
-  shared_out = same_hands in-hand (paper-shared.shared_out (rules_of s) file reads)
+  shared_out = same_hands in_hand (paper-shared.shared_out (rules_of s) file reads)
 
   -- and no individual or additional record stands in a file written beside these
   pub nothing_beside : (e : ℕ) → item_records (items_of (written_for r after e)) ≡ carried (records_of (written_for r after e))
   nothing_beside e =
       by (holds_to e file)
-      (λ y. subst AllCarried (sym (is-extract e y)) (extract_records (rules_of s) e file reads))
-      (λ y. subst AllCarried (sym (is-empty e y)) none_carried)
+      (λ y. subst AllCarried (sym (is_extract e y)) (extract_records (rules_of s) e file reads))
+      (λ y. subst AllCarried (sym (is_empty e y)) none_carried)

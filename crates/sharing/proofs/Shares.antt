@@ -118,23 +118,23 @@ module _ (s : Session) (e : ℕ) (file before : List ℕ) (r : Part) (after : Li
     λ x. let y = (addressed_exactly e file).0 x.0 in same y ((extract_named s e file before (output_of r) after (cut y) fault place).1 x.1),
   )
 
-  all-handed : {n : ℕ} → r ≡ Bytes n → bytes_of r after ≡ handed (output_of r) after
+  all_handed : {n : ℕ} → r ≡ Bytes n → bytes_of r after ≡ handed (output_of r) after
   unfolding bytes_of handed
-  all-handed p = ap (λ (q : Part). bytes_of q after) p ∙ ap (λ (q : Part). handed (output_of q) after) (sym p)
+  all_handed p = ap (λ (q : Part). bytes_of q after) p ∙ ap (λ (q : Part). handed (output_of q) after) (sym p)
 
   -- the bytes are the extract, their number is its length, and the rest of the buffer stays
   pub bytes_held : {n : ℕ} → r ≡ Bytes n
       → (bytes_of r after ≡ extract s.currency e file) × (n ≡ length (extract s.currency e file)) × (drop n after ≡ drop n before)
   bytes_held {n} p =
       let x = extract_held s e file before (output_of r) after (cut (some (output.Accepted n) p)) (ap output_of p) in
-      (all-handed p ∙ x.0, x.1, x.2)
+      (all_handed p ∙ x.0, x.1, x.2)
 
   -- they are received at E's desk, in that session or in one of the same date, currency and roster
   -- (not so with the whole file for who has one record, or with the next entity's extract)
   pub bytes_received : {n : ℕ} → r ≡ Bytes n → (t : Session) → rules_of t ≡ rules_of s → (a : Answer) → Receives t e (bytes_of r after) a → a ≡ Accepted
   bytes_received {n} p t same-rules a k =
       extract_received s e file before (output_of r) after (cut (some (output.Accepted n) p)) (ap output_of p) t same-rules a
-      (k ∙ ap (receiving (rules_of t) e) (all-handed p))
+      (k ∙ ap (receiving (rules_of t) e) (all_handed p))
 
   -- nothing, and a refusal, leave the lent buffer as it was
   pub nothing_stays : r ≡ Nothing → after ≡ before

@@ -55,13 +55,13 @@ below_next Other seen highest counter r up below n h = below n h
 -- ---- one record further
 
 module _ {kind : Kind} {file : List ℕ} {place : ℕ} {st : State} (ready : Ready kind file place st) where
-  fresh-now : (i : Bool) {fresh : ℕ} → KnowsIf i file place st fresh → FreshTo file place fresh
-  fresh-now true {fresh} by = go (ltb st.highest (number_in (record_at file place))) refl
+  fresh_now : (i : Bool) {fresh : ℕ} → KnowsIf i file place st fresh → FreshTo file place fresh
+  fresh_now true {fresh} by = go (ltb st.highest (number_in (record_at file place))) refl
     where
       go : (b : Bool) → ltb st.highest (number_in (record_at file place)) ≡ b → FreshTo file place fresh
       go true e = rw (by.above e) ready.known.fresh
       go false e = (by.looked e).now
-  fresh-now false e = rw e ready.known.fresh
+  fresh_now false e = rw e ready.known.fresh
 
   pub known_next : {next : State} → (is_individual kind ≡ true → st.counter < number_in (record_at file place)) → next.counter ≡ counter_next kind st.counter (record_at file place)
       → next.highest ≡ higher kind st.highest st.counter → Knows kind file place st next.fresh → KnownIn file (place + 1) next
@@ -69,7 +69,7 @@ module _ {kind : Kind} {file : List ℕ} {place : ℕ} {st : State} (ready : Rea
     below = λ n h.
         rw (counter, highest)
         (below_next kind (numbers_before file place) st.highest st.counter (record_at file place) up ready.known.below n (rw (one_more file place, ready.told) at h));
-    fresh = fresh_further file place next.fresh (fresh-now (is_individual kind) knows);
+    fresh = fresh_further file place next.fresh (fresh_now (is_individual kind) knows);
   }
 
 -- ---- at a record

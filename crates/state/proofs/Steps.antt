@@ -50,16 +50,16 @@ module _ {kind : Kind} (rules : ReadingRules) {file : List ℕ} {place : ℕ} {s
 
 module _ {file : List ℕ} {place : ℕ} {st : State} (ready : Ready Individual file place st) (rules : ReadingRules)
     (good : individual rules (record_at file st.header) st.counter (record_at file place) ≡ fine) where
-  seen-so : {b : Bool} → repeated file place ≡ b → among (numbers_before file place) (number_in (record_at file place)) ≡ b
-  seen-so h = sym (repeated_at file place (rw ready.told refl)) ∙ h
+  seen_so : {b : Bool} → repeated file place ≡ b → among (numbers_before file place) (number_in (record_at file place)) ≡ b
+  seen_so h = sym (repeated_at file place (rw ready.told refl)) ∙ h
 
   pub is_new : repeated file place ≡ false → fields Individual rules (meant file place st) (record_at file place) ≡ fine
   unfolding fields meant need ◌also◌
-  is_new h = rw (good, seen-so h) refl
+  is_new h = rw (good, seen_so h) refl
 
   pub is_old : repeated file place ≡ true → fields Individual rules (meant file place st) (record_at file place) ≡ wrong 27
   unfolding fields meant need ◌also◌
-  is_old h = rw (good, seen-so h) refl
+  is_old h = rw (good, seen_so h) refl
 
 -- ---- room for one record more
 
@@ -106,11 +106,11 @@ number_told true r entry h of a = ap (λ (e : Entry). of e.counter) (h refl).0
 number_told false r entry h of a = refl
 
 module _ {kind : Kind} {counter : ℕ} {r : List ℕ} {entry : Entry} {flagged : Bool} (told : EntryTold kind counter r entry flagged) where
-  counter-told : counter_by kind counter entry.counter ≡ counter_next kind counter r
-  counter-told = ap (λ (n : ℕ). cond (opens_batch kind) 0 n) (number_told (is_individual kind) r entry told.numbers (λ n. n) counter)
+  counter_told : counter_by kind counter entry.counter ≡ counter_next kind counter r
+  counter_told = ap (λ (n : ℕ). cond (opens_batch kind) 0 n) (number_told (is_individual kind) r entry told.numbers (λ n. n) counter)
 
-  batch-told : (t : Tally) → batch_by kind t entry ≡ batch_next kind t r
-  batch-told t = ap (λ (m : Tally). cond (opens_batch kind) zeros m) (go (is_individual kind) told.numbers (cond (is_additional kind) (with_additional t) t))
+  batch_told : (t : Tally) → batch_by kind t entry ≡ batch_next kind t r
+  batch_told t = ap (λ (m : Tally). cond (opens_batch kind) zeros m) (go (is_individual kind) told.numbers (cond (is_additional kind) (with_additional t) t))
     where
       go : (i : Bool) → (i ≡ true → Entered r entry) → (other : Tally) → cond i (with_entry t entry) other ≡ cond i (with_individual t r) other
       go true h other = entered r entry (h refl).0 (h refl).1 t
@@ -168,7 +168,7 @@ module _ {kind : Kind} {file : List ℕ} {place : ℕ} {st : State} (ready : Rea
   pub after_advances : {entry : Entry} {flagged : Bool} (fresh : ℕ) → EntryTold kind st.counter r entry flagged → Knows kind file place st fresh
       → Advances kind file place st (after_by kind place st entry flagged fresh)
   unfolding after_by
-  after_advances fresh told knows = advances (before_told kind r _ told.flag) refl refl told.rises (counter-told told) refl knows refl (batch-told told st.batch) refl
+  after_advances fresh told knows = advances (before_told kind r _ told.flag) refl refl told.rises (counter_told told) refl knows refl (batch_told told st.batch) refl
 
   -- after any other
   pub past_advances : is_individual kind ≡ false → Advances kind file place st (past_by kind place st)

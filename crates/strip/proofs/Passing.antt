@@ -42,9 +42,9 @@ passed_fits file place =
 
 -- one record further
 module _ (file : List ℕ) (place : ℕ) (l : place < length file / 94) where
-  one-passed : passed file (place + 1) ≡ passed file place ++ on_tray (record_at file place)
+  one_passed : passed file (place + 1) ≡ passed file place ++ on_tray (record_at file place)
   unfolding passed on_tray records_of record_at stripped
-  one-passed =
+  one_passed =
       let rs : List (List ℕ) = records_of file in
       let r : List ℕ = take 94 (drop (place * 94) file) in
       let i : place < length rs = omega (arith, length_parts 94 (length file / 94) file) in
@@ -52,7 +52,7 @@ module _ (file : List ℕ) (place : ℕ) (l : place < length file / 94) where
       rw (add-one, take-suc rs place [] i, here, stripped_append (take place rs) (r ∷ []), append-nil (marked (kind_of r) r)) (joined_append (stripped (take place rs)) (marked (kind_of r) r))
 
   pub one_longer : length (passed file (place + 1)) ≡ length (passed file place) + length (on_tray (record_at file place))
-  one_longer = ap length one-passed ∙ length-append (passed file place) (on_tray (record_at file place))
+  one_longer = ap length one_passed ∙ length-append (passed file place) (on_tray (record_at file place))
 
 -- written up to a place, into a buffer with room for the tray
 module _ (file : List ℕ) (place : ℕ) {old new : List ℕ} {at : ℕ} (w : Wrote 0 (passed file place) old new at) (room : length (strip file) ≤ length old) where
@@ -70,4 +70,4 @@ module _ (file : List ℕ) (place : ℕ) {old new : List ℕ} {at : ℕ} (w : Wr
         → Wrote 0 (passed file (place + 1)) old (put_mid at (length new - at) new part) (at + n)
     record_put p =
         let t : List ℕ = on_tray (record_at file place) in
-        rw (one-passed file place l) (on w t (omega (arith, p.0), rw p.1 (rest_laid at t new (again w).inside)))
+        rw (one_passed file place l) (on w t (omega (arith, p.0), rw p.1 (rest_laid at t new (again w).inside)))

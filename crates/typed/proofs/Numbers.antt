@@ -51,19 +51,19 @@ too_high n h = rw (le-ltb n 500 h)
 
 -- two numbers that are the same as entities are equal, or neither is an entity
 module _ (a b : ℕ) (e : as_entity a ≡ as_entity b) where
-  alike-within : within 1 499 a ≡ within 1 499 b
-  alike-within = sym (as_within a) ∙ ap (within 1 499) e ∙ as_within b
+  alike_within : within 1 499 a ≡ within 1 499 b
+  alike_within = sym (as_within a) ∙ ap (within 1 499) e ∙ as_within b
 
   alike_is : within 1 499 a ≡ true → a ≡ b
-  alike_is h = sym (as_is a h) ∙ e ∙ as_is b (sym alike-within ∙ h)
+  alike_is h = sym (as_is a h) ∙ e ∙ as_is b (sym alike_within ∙ h)
 
   -- what answers for all that are no entity as for 0 answers alike for both
-  alike-by : {A : Type 0} (job : ℕ → A) → ((n : ℕ) → within 1 499 n ≡ false → job n ≡ job 0) → job a ≡ job b
-  alike-by job k = go (within 1 499 a) refl
+  alike_by : {A : Type 0} (job : ℕ → A) → ((n : ℕ) → within 1 499 n ≡ false → job n ≡ job 0) → job a ≡ job b
+  alike_by job k = go (within 1 499 a) refl
     where
       go : (w : Bool) → within 1 499 a ≡ w → job a ≡ job b
       go true h = ap job (alike_is h)
-      go false h = k a h ∙ sym (k b (sym alike-within ∙ h))
+      go false h = k a h ∙ sym (k b (sym alike_within ∙ h))
 
 -- ---- a number up to the most that is asked for
 
@@ -76,9 +76,9 @@ module _ (most : ℕ) where
   unfolding up_to
   beyond n h = rw (lt-leb n most h)
 
-  grown-below : (n b : ℕ) → grown most n b ≤ most * 10 + 9
+  grown_below : (n b : ℕ) → grown most n b ≤ most * 10 + 9
   unfolding grown
-  grown-below n b = go (digit b) (leb n most) refl refl
+  grown_below n b = go (digit b) (leb n most) refl refl
     where
       go : (d l : Bool) → digit b ≡ d → leb n most ≡ l → cond (d && l) (n * 10 + (b - 48)) (most + 1) ≤ most * 10 + 9
       go true true e f = let r = digit_range b (T_of e) in let k = leb-true n most f in omega arith
@@ -86,27 +86,27 @@ module _ (most : ℕ) where
       go false l e f = omega arith
 
   pub grown_bounded : (n b : ℕ) {r : ℕ} → r ≡ grown most n b → (r ≡ grown most n b) × (r ≤ most * 10 + 9)
-  grown_bounded n b e = (e, rw e (grown-below n b))
+  grown_bounded n b e = (e, rw e (grown_below n b))
 
   pub grown_by_below : (word : List ℕ) (n : ℕ) → n ≤ most * 10 + 9 → grown_by most n word ≤ most * 10 + 9
   unfolding grown_by
   grown_by_below [] n h = h
-  grown_by_below (b ∷ bs) n h = grown_by_below bs (grown most n b) (grown-below n b)
+  grown_by_below (b ∷ bs) n h = grown_by_below bs (grown most n b) (grown_below n b)
 
   -- once beyond, always beyond
-  grown-high : (word : List ℕ) (n : ℕ) → most < n → up_to most (grown_by most n word) ≡ most + 1
+  grown_high : (word : List ℕ) (n : ℕ) → most < n → up_to most (grown_by most n word) ≡ most + 1
   unfolding grown_by grown
-  grown-high [] n h = beyond n h
-  grown-high (b ∷ bs) n h = rw (lt-leb n most h, and-false) (grown-high bs (most + 1) (omega arith))
+  grown_high [] n h = beyond n h
+  grown_high (b ∷ bs) n h = rw (lt-leb n most h, and-false) (grown_high bs (most + 1) (omega arith))
 
-  value-high : (word : List ℕ) (n : ℕ) → n ≤ value_from n word
+  value_high : (word : List ℕ) (n : ℕ) → n ≤ value_from n word
   unfolding value_from
-  value-high [] n = omega arith
-  value-high (d ∷ ds) n = omega (arith, value-high ds (n * 10 + (d - 48)))
+  value_high [] n = omega arith
+  value_high (d ∷ ds) n = omega (arith, value_high ds (n * 10 + (d - 48)))
 
-  number-high : (d : Bool) (word : List ℕ) (n : ℕ) → most < n → up_to most (cond d (value_from n word) (most + 1)) ≡ most + 1
-  number-high true word n h = beyond (value_from n word) (omega (arith, value-high word n))
-  number-high false word n h = beyond (most + 1) (omega arith)
+  number_high : (d : Bool) (word : List ℕ) (n : ℕ) → most < n → up_to most (cond d (value_from n word) (most + 1)) ≡ most + 1
+  number_high true word n h = beyond (value_from n word) (omega (arith, value_high word n))
+  number_high false word n h = beyond (most + 1) (omega arith)
 
   pub grown_value : (word : List ℕ) (n : ℕ) → up_to most (grown_by most n word) ≡ up_to most (cond (digits word) (value_from n word) (most + 1))
   unfolding grown_by grown value_from every
@@ -121,8 +121,8 @@ module _ (most : ℕ) where
       go true true e h = h
       go true false e h =
           let k = leb-false n most e in
-          grown-high bs (most + 1) (omega arith) ∙ sym (number-high (digits bs) bs more (omega arith))
-      go false l e h = grown-high bs (most + 1) (omega arith) ∙ sym (beyond (most + 1) (omega arith))
+          grown_high bs (most + 1) (omega arith) ∙ sym (number_high (digits bs) bs more (omega arith))
+      go false l e h = grown_high bs (most + 1) (omega arith) ∙ sym (beyond (most + 1) (omega arith))
 
 -- ---- a word's entity
 
@@ -146,7 +146,7 @@ module _ (word : List ℕ) where
 
   -- a word is an entity exactly where its number is one, and then that number
   pub entity_within : within 1 499 (entity_typed word) ≡ within 1 499 (number word)
-  entity_within = alike-within (entity_typed word) (number word) typed_entity
+  entity_within = alike_within (entity_typed word) (number word) typed_entity
 
   pub entity_is : within 1 499 (entity_typed word) ≡ true → entity_typed word ≡ number word
   entity_is = alike_is (entity_typed word) (number word) typed_entity
@@ -160,15 +160,15 @@ module _ (word : List ℕ) where
   module _ (rules : Rules) (file : List ℕ) where
     pub extracting_typed : (buffer : List ℕ) → extracting rules (entity_typed word) file buffer ≡ extracting rules (number word) file buffer
     unfolding extracting written entity_given and_then require
-    extracting_typed buffer = alike-by (entity_typed word) (number word) typed_entity (λ n. extracting rules n file buffer) (λ n h. rw h refl)
+    extracting_typed buffer = alike_by (entity_typed word) (number word) typed_entity (λ n. extracting rules n file buffer) (λ n h. rw h refl)
 
     pub receiving_typed : receiving rules (entity_typed word) file ≡ receiving rules (number word) file
     unfolding receiving entity_given and_then require
-    receiving_typed = alike-by (entity_typed word) (number word) typed_entity (λ n. receiving rules n file) (λ n h. rw h refl)
+    receiving_typed = alike_by (entity_typed word) (number word) typed_entity (λ n. receiving rules n file) (λ n h. rw h refl)
 
     pub showing_typed : (motives : List ℕ) (place : ℕ) → showing rules (entity_typed word) file motives place ≡ showing rules (number word) file motives place
     unfolding showing showable entity_given and_then require
-    showing_typed motives place = alike-by (entity_typed word) (number word) typed_entity (λ n. showing rules n file motives place) (λ n h. rw h refl)
+    showing_typed motives place = alike_by (entity_typed word) (number word) typed_entity (λ n. showing rules n file motives place) (λ n h. rw h refl)
 
   -- what is taken for a date is six digits, and the number that they spell
   pub date_is : is_date (date_typed word) ≡ true → (length word ≡ 6) × (date_typed word ≡ number word)

@@ -204,15 +204,15 @@ own_numbers (n ∷ ns) t =
 
 -- opening asks only whether all are entities and, if so, which are listed
 module _ (date : ℕ) (currency : Currency) (es fs : List ℕ) where
-  opened-alike : (a : Said) → listed 500 0 es ≡ listed 500 0 fs → opened_with a date currency es ≡ opened_with a date currency fs
+  opened_alike : (a : Said) → listed 500 0 es ≡ listed 500 0 fs → opened_with a date currency es ≡ opened_with a date currency fs
   unfolding opened_with new_session
-  opened-alike accepted h = rw h
-  opened-alike (refused n place) h = refl
+  opened_alike accepted h = rw h
+  opened_alike (refused n place) h = refl
 
-  opening-alike : every (within 1 499) es ≡ every (within 1 499) fs → (every (within 1 499) fs ≡ true → listed 500 0 es ≡ listed 500 0 fs)
+  opening_alike : every (within 1 499) es ≡ every (within 1 499) fs → (every (within 1 499) fs ≡ true → listed 500 0 es ≡ listed 500 0 fs)
       → opening date currency es ≡ opening date currency fs
   unfolding opening opening_answer opened_with and_then require
-  opening-alike w h = rw w (go (every (within 1 499) fs) (is_date date) h)
+  opening_alike w h = rw w (go (every (within 1 499) fs) (is_date date) h)
     where
       answer : Bool → Bool → Said
       answer d b = and_then (require d 75 0) (require b 208 0)
@@ -221,7 +221,7 @@ module _ (date : ℕ) (currency : Currency) (es fs : List ℕ) where
       reply a entities = record { answer = a; session = opened_with a date currency entities }
 
       go : (b d : Bool) → (b ≡ true → listed 500 0 es ≡ listed 500 0 fs) → reply (answer d b) es ≡ reply (answer d b) fs
-      go true d l = λ i. record { answer = answer d true; session = opened-alike (answer d true) (l refl) i }
+      go true d l = λ i. record { answer = answer d true; session = opened_alike (answer d true) (l refl) i }
       go false true l = refl
       go false false l = refl
 
@@ -243,5 +243,5 @@ module _ (date : ℕ) (currency : Currency) (text : List ℕ) where
       let ns : List ℕ = roster_typed text in
       let es : List ℕ = map as_entity ns in
       let marks = typed_marks text in
-      opening-alike date currency (numbers_marked 0 (closed (read_on begun text)).listed) ns (all_typed text)
+      opening_alike date currency (numbers_marked 0 (closed (read_on begun text)).listed) ns (all_typed text)
       (λ h. rw marks (listed_again es) ∙ ap (listed 500 0) (own_numbers ns (T_of h)))

@@ -51,9 +51,9 @@ kept_begun n (x ∷ word) p bytes l t k = subst (λ (b : Bool). Kept true n (x �
 
 -- and has one byte more
 module _ (n : ℕ) (word : List ℕ) (p : Progress) (bytes : List ℕ) (b : ℕ) (room : length bytes ≡ 64) (k : Kept true n word p bytes) where
-  room-on : length (bytes_with p b bytes) ≡ 64
+  room_on : length (bytes_with p b bytes) ≡ 64
   unfolding bytes_with
-  room-on = go (ltb p.kept 64)
+  room_on = go (ltb p.kept 64)
     where
       go : (t : Bool) → length (cond t (set bytes p.kept b) bytes) ≡ 64
       go true = length-set bytes p.kept b ∙ room
@@ -94,7 +94,7 @@ keeping_on n word r b l t k = subst (λ (wrong : Bool). Keeping n (word ++ b ∷
     on = record {
       right = k.right;
       marks = k.marks;
-      room = room-on n word p r.bytes b k.room there;
+      room = room_on n word p r.bytes b k.room there;
       kept =
           subst (λ (s : Bool). Kept s n (word ++ b ∷ []) (progress_with p b (kept_with p)) (bytes_with p b r.bytes)) (some_snoc word b)
           (kept_on n word p r.bytes b k.room there);
@@ -146,16 +146,16 @@ none_ended n r t k =
     }
 
 module _ (n x : ℕ) (word : List ℕ) (r : Roster) (t : Typing (x ∷ word) r.progress) (k : Keeping n (x ∷ word) r) where
-  one-noted : marks_after r.progress r.listed ≡ noted r.listed (entity_typed (x ∷ word))
+  one_noted : marks_after r.progress r.listed ≡ noted r.listed (entity_typed (x ∷ word))
   unfolding marks_after some entity_typed
-  one-noted = rw (t.reading, t.so_far)
+  one_noted = rw (t.reading, t.so_far)
 
   fits : not (wrong_noted (marks_after r.progress r.listed)) ≡ within 1 499 (number (x ∷ word))
-  fits = rw one-noted (noted_right r.listed (x ∷ word) k.marks k.right)
+  fits = rw one_noted (noted_right r.listed (x ∷ word) k.marks k.right)
 
   long : length (marks_after r.progress r.listed) ≡ 500
   unfolding noted
-  long = rw one-noted (length-set r.listed _ true ∙ k.marks)
+  long = rw one_noted (length-set r.listed _ true ∙ k.marks)
 
   is_right : within 1 499 (number (x ∷ word)) ≡ true → Right n (x ∷ word) r
   unfolding closed progress_after some ended wrong_among
@@ -166,9 +166,9 @@ module _ (n x : ℕ) (word : List ℕ) (r : Roster) (t : Typing (x ∷ word) r.p
     goes_on = λ words. rw h;
   }
 
-  is-told : within 1 499 (number (x ∷ word)) ≡ false → Told n (x ∷ word) r
+  is_told : within 1 499 (number (x ∷ word)) ≡ false → Told n (x ∷ word) r
   unfolding closed progress_after wrong_in which_if told_by some ended wrong_among
-  is-told h =
+  is_told h =
       let f = not-false (wrong_noted (marks_after r.progress r.listed)) (fits ∙ h) in
       let size = all_kept r.progress.kept (omega (arith, k.kept.1, take_most 64 (x ∷ word))) in
       record { wrong = f; stays = λ words. rw (f, h, size, k.kept.0, k.kept.2) }
@@ -179,7 +179,7 @@ ending n (x ∷ word) r t k = go (within 1 499 (number (x ∷ word))) refl
   where
     go : (b : Bool) → within 1 499 (number (x ∷ word)) ≡ b → Right n (x ∷ word) r ⊎ Told n (x ∷ word) r
     go true h = inl (is_right n x word r t k h)
-    go false h = inr (is-told n x word r t k h)
+    go false h = inr (is_told n x word r t k h)
 
 -- ---- a whole text
 

@@ -92,9 +92,9 @@ module _ (a b : List ℕ) (h : (place : ℕ) → watch_on (watch_at place) a ≡
   unfolding watch_at
   there place l m = ap (λ (w : Watch). w.byte) (sym (on_hit (watch_at place) a refl l) ∙ h place ∙ on_hit (watch_at place) b refl m)
 
-  no-shorter : length a < length b → ⊥
+  no_shorter : length a < length b → ⊥
   unfolding watch_at
-  no-shorter l =
+  no_shorter l =
       false≢true (ap (λ (w : Watch). w.come) (sym (on_still (watch_at (length a)) a refl (omega arith)) ∙ h (length a) ∙ on_hit (watch_at (length a)) b refl l))
 
 pub every_place : (a b : List ℕ) → ((place : ℕ) → watch_on (watch_at place) a ≡ watch_on (watch_at place) b) → a ≡ b
@@ -105,5 +105,5 @@ every_place a b h = go (leb (length b) (length a)) refl (leb (length a) (length 
         let m = leb-true (length b) (length a) d in
         let n = leb-true (length a) (length b) e in
         ext_get_or 0 a b (omega arith) (λ i l. there a b h i l (omega arith))
-    go false d y e = absurd (no-shorter a b h (leb-false (length b) (length a) d))
-    go true d false e = absurd (no-shorter b a (λ p. sym (h p)) (leb-false (length a) (length b) e))
+    go false d y e = absurd (no_shorter a b h (leb-false (length b) (length a) d))
+    go true d false e = absurd (no_shorter b a (λ p. sym (h p)) (leb-false (length a) (length b) e))

@@ -16,8 +16,8 @@ module _ (part text : List ℕ) (at : ℕ) (same : length part ≡ length text) 
   abbrev put : ℕ → List ℕ → List ℕ
   put k l = set l (at + k) (get_or text (at + k) 0)
 
-  one-stored : (k : ℕ) → k < 8 → put k (stored k) ≡ stored (suc k)
-  one-stored k h =
+  one_stored : (k : ℕ) → k < 8 → put k (stored k) ≡ stored (suc k)
+  one_stored k h =
       ap (set (stored k) (at + k)) (sym (get_or-drop at text k 0))
       ∙ paste-suc part at (drop at text) k 0 (omega arith) (rw length-drop (omega arith))
 
@@ -25,7 +25,7 @@ module _ (part text : List ℕ) (at : ℕ) (same : length part ≡ length text) 
   first =
       ap (λ (n : ℕ). set part n (get_or text n 0)) (sym (add-zero at))
       ∙ ap (put 0) (paste-zero part at (drop at text))
-      ∙ one-stored 0 (omega arith)
+      ∙ one_stored 0 (omega arith)
 
   eight_long : length (take 8 (drop at text)) ≡ 8
   eight_long = length-take-le 8 (drop at text) (rw length-drop (omega arith))
@@ -34,13 +34,13 @@ module _ (part text : List ℕ) (at : ℕ) (same : length part ≡ length text) 
   unfolding laid
   eight_stored =
       ap (λ (l : List ℕ). put 7 (put 6 (put 5 (put 4 (put 3 (put 2 (put 1 (l)))))))) first
-      ∙ ap (λ (l : List ℕ). put 7 (put 6 (put 5 (put 4 (put 3 (put 2 (l))))))) (one-stored 1 (omega arith))
-      ∙ ap (λ (l : List ℕ). put 7 (put 6 (put 5 (put 4 (put 3 (l)))))) (one-stored 2 (omega arith))
-      ∙ ap (λ (l : List ℕ). put 7 (put 6 (put 5 (put 4 (l))))) (one-stored 3 (omega arith))
-      ∙ ap (λ (l : List ℕ). put 7 (put 6 (put 5 (l)))) (one-stored 4 (omega arith))
-      ∙ ap (λ (l : List ℕ). put 7 (put 6 (l))) (one-stored 5 (omega arith))
-      ∙ ap (λ (l : List ℕ). put 7 (l)) (one-stored 6 (omega arith))
-      ∙ one-stored 7 (omega arith)
+      ∙ ap (λ (l : List ℕ). put 7 (put 6 (put 5 (put 4 (put 3 (put 2 (l))))))) (one_stored 1 (omega arith))
+      ∙ ap (λ (l : List ℕ). put 7 (put 6 (put 5 (put 4 (put 3 (l)))))) (one_stored 2 (omega arith))
+      ∙ ap (λ (l : List ℕ). put 7 (put 6 (put 5 (put 4 (l))))) (one_stored 3 (omega arith))
+      ∙ ap (λ (l : List ℕ). put 7 (put 6 (put 5 (l)))) (one_stored 4 (omega arith))
+      ∙ ap (λ (l : List ℕ). put 7 (put 6 (l))) (one_stored 5 (omega arith))
+      ∙ ap (λ (l : List ℕ). put 7 (l)) (one_stored 6 (omega arith))
+      ∙ one_stored 7 (omega arith)
       ∙ ap (λ (n : ℕ). take at part ++ take 8 (drop at text) ++ drop (at + n) part) (sym eight_long)
 
 -- a text copied up to an index

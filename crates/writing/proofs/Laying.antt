@@ -11,19 +11,19 @@ use Rattle.paper.specs.Buffers.{over}
 use Rattle.writing.specs.Laid.{laid}
 
 module _ (at : ℕ) (a b buffer : List ℕ) (inside : at ≤ length buffer) where
-  head-length : length (take at buffer ++ a) ≡ at + length a
-  head-length = rw (length-append, length-take-le at buffer inside)
+  head_length : length (take at buffer ++ a) ≡ at + length a
+  head_length = rw (length-append, length-take-le at buffer inside)
 
-  rest-after : drop (at + length a + length b) (take at buffer ++ a ++ drop (at + length a) buffer) ≡ drop (at + length (a ++ b)) buffer
-  rest-after =
+  rest_after : drop (at + length a + length b) (take at buffer ++ a ++ drop (at + length a) buffer) ≡ drop (at + length (a ++ b)) buffer
+  rest_after =
       let l : at + length a + length b ≡ at + length (a ++ b) = rw length-append (omega arith) in
-      ap (λ (n : ℕ). drop (n + length b) (take at buffer ++ a ++ drop (at + length a) buffer)) (sym head-length)
+      ap (λ (n : ℕ). drop (n + length b) (take at buffer ++ a ++ drop (at + length a) buffer)) (sym head_length)
       ∙ (drop-append-add (take at buffer ++ a) (drop (at + length a) buffer) (length b) ∙ (drop-drop (length b) (at + length a) buffer ∙ rw l))
 
   pub laid_on : laid (at + length a) b (laid at a buffer) ≡ laid at (a ++ b) buffer
   unfolding laid
   laid_on =
-      rw (take_at (take at buffer ++ a) (drop (at + length a) buffer) (at + length a) head-length, rest-after, append_assoc (take at buffer) a b)
+      rw (take_at (take at buffer ++ a) (drop (at + length a) buffer) (at + length a) head_length, rest_after, append_assoc (take at buffer) a b)
 
 -- a part that was written over whole, and is back
 pub part_laid : (at end : ℕ) (text buffer : List ℕ) → end ≡ at + length text → put_mid at (end - at) buffer text ≡ laid at text buffer
@@ -74,13 +74,13 @@ on {at} {m} {n} {a} {x} {y} {z} w b e = record {
 pub kept : {at n : ℕ} {a x y : List ℕ} → Wrote at a x y n → n ≤ length x → length y ≡ length x
 unfolding laid
 kept {at} {n} {a} {x} {y} w h =
-    rw (w.held, length-append (take at x ++ a), head-length at a [] x w.inside, length-drop) (omega (arith, w.next))
+    rw (w.held, length-append (take at x ++ a), head_length at a [] x w.inside, length-drop) (omega (arith, w.next))
 
 -- the next write starts inside the buffer
 pub again : {at n : ℕ} {a x y : List ℕ} → Wrote at a x y n → Wrote n [] y y n
 unfolding laid
 again {at} {n} {a} {x} {y} w =
-    start (rw (w.held, length-append (take at x ++ a), head-length at a [] x w.inside, w.next) (omega arith))
+    start (rw (w.held, length-append (take at x ++ a), head_length at a [] x w.inside, w.next) (omega arith))
 
 -- from the buffer's start on
 pub whole : {n : ℕ} {a x y : List ℕ} → Wrote 0 a x y n → (n ≡ length a) × (y ≡ over a x)

@@ -35,8 +35,8 @@ verdict : (c : After-stands) → first c.args.file.now c.args.place c.args.state
 verdict c =
     rw ((let h : kind_of (record_at c.args.file.now c.args.place) ≡ Individual = c.requires.place_value_2.0 ∙ c.in-Individual.is in h), c.stands.ensures, c.record_at-rec.ensures.0) refl
 
-verdict-2 : (c : After-stands-in-Additional) → first c.args.file.now c.args.place c.args.state ≡ check_of c.stands-in-Additional.result
-verdict-2 c =
+verdict_2 : (c : After-stands-in-Additional) → first c.args.file.now c.args.place c.args.state ≡ check_of c.stands-in-Additional.result
+verdict_2 c =
     rw ((let h : kind_of (record_at c.args.file.now c.args.place) ≡ Additional = c.requires.place_value_2.0 ∙ c.in-Additional.is in h), c.stands-in-Additional.ensures, c.record_at-rec.ensures.0) refl
 
 -- both were right
@@ -44,9 +44,9 @@ stood : (c : In-Right) → first c.args.file.now c.args.place c.args.state ≡ f
 unfolding check_of
 stood c = rw c.in-Right.is at ((let h : first c.args.file.now c.args.place c.args.state ≡ check_of c.stands.result = rw ((let h : kind_of (record_at c.args.file.now c.args.place) ≡ Individual = c.requires.place_value_2.0 ∙ c.in-Individual.is in h), c.stands.ensures, c.record_at-rec.ensures.0) refl in h))
 
-stood-2 : (c : In-Right-stands) → first c.args.file.now c.args.place c.args.state ≡ fine
+stood_2 : (c : In-Right-stands) → first c.args.file.now c.args.place c.args.state ≡ fine
 unfolding check_of
-stood-2 c = rw c.in-Right-stands.is at ((let h : first c.args.file.now c.args.place c.args.state ≡ check_of c.stands-in-Additional.result = rw ((let h : kind_of (record_at c.args.file.now c.args.place) ≡ Additional = c.requires.place_value_2.0 ∙ c.in-Additional.is in h), c.stands-in-Additional.ensures, c.record_at-rec.ensures.0) refl in h))
+stood_2 c = rw c.in-Right-stands.is at ((let h : first c.args.file.now c.args.place c.args.state ≡ check_of c.stands-in-Additional.result = rw ((let h : kind_of (record_at c.args.file.now c.args.place) ≡ Additional = c.requires.place_value_2.0 ∙ c.in-Additional.is in h), c.stands-in-Additional.ensures, c.record_at-rec.ensures.0) refl in h))
 
 pub step-requires : goal.step-requires
 step-requires c =
@@ -56,7 +56,7 @@ step-requires c =
 pub step-requires-in-Right-stands : goal.step-requires-in-Right-stands
 step-requires-in-Right-stands c =
     ready c.requires.arrived (additional_so (goal.at.step-requires-in-Right-stands c).In-Additional)
-    (rw (additional_so (goal.at.step-requires-in-Right-stands c).In-Additional) at (also_r (need (every good (record_at _ _)) 17) (allowed _ _) (stood-2 c)))
+    (rw (additional_so (goal.at.step-requires-in-Right-stands c).In-Additional) at (also_r (need (every good (record_at _ _)) 17) (allowed _ _) (stood_2 c)))
 
 pub returns-in-Right : goal.returns-in-Right
 returns-in-Right c = record { says = c.step.ensures.says ∙ stands _ _ _ _ (stood (goal.at.returns-in-Right c).In-Right); kept = c.step.ensures.kept }
@@ -69,12 +69,12 @@ returns-in-Wrong c =
 pub returns-in-Right-stands : goal.returns-in-Right-stands
 returns-in-Right-stands c =
     let done = c.step-in-Right-stands.ensures (under c.args.terms c.args.roster.now) in
-    record { says = done.says ∙ stands _ _ _ _ (stood-2 (goal.at.returns-in-Right-stands c).In-Right-stands); kept = done.kept }
+    record { says = done.says ∙ stands _ _ _ _ (stood_2 (goal.at.returns-in-Right-stands c).In-Right-stands); kept = done.kept }
 
 pub returns-in-Wrong-stands : goal.returns-in-Wrong-stands
 unfolding check_of step_says Kept
 returns-in-Wrong-stands c =
-    record { says = falls _ _ _ _ (rw c.in-Wrong-stands.is at (verdict-2 (goal.at.returns-in-Wrong-stands c).After-stands-in-Additional)); kept = tt }
+    record { says = falls _ _ _ _ (rw c.in-Wrong-stands.is at (verdict_2 (goal.at.returns-in-Wrong-stands c).After-stands-in-Additional)); kept = tt }
 
 pub returns-in_default : goal.returns-in_default
 returns-in_default c =
