@@ -1,5 +1,5 @@
 -- A file that is being read. Its fields are private: other specs speak of it by these words.
-use Rattle.std.specs.Prelude.{ℕ, ◌+◌, ◌^◌, ◌≤◌, ◌<◌, Bool, false, List, ◌≡◌, T, ltb, ℤ, length, take, option_map, unwrap_or}
+use Rattle.std.specs.Prelude.{ℕ, ◌+◌, ◌^◌, ◌≤◌, ◌<◌, Bool, false, List, ◌≡◌, T, ltb, ℤ, length, take, is_some, option_map, unwrap_or}
 use Rattle.std.specs.Int.Signed.{non_neg}
 use Rattle.std.specs.Fd.{file_raw_fd}
 use Rattle.watch.specs.declared.Watch.{Watch}
@@ -38,6 +38,10 @@ descriptor_of source = file_raw_fd source.file
 abbrev pub meter_of : Source → ℤ
 meter_of source = unwrap_or (option_map file_raw_fd source.meter) (descriptor_of source)
 
+-- what tells how far it has come is apart from the file: it has no places of its own
+abbrev pub has_meter : Source → Bool
+has_meter source = is_some source.meter
+
 -- one that has handed over so many bytes is not read on
 abbrev pub most_handed : ℕ
 most_handed = 2 ^ 30
@@ -74,6 +78,7 @@ pub record Copied (source copy : Source) : Type 0 where
   pub watch : watch_of copy ≡ watch_of source
   pub ended : has_ended copy ≡ has_ended source
   pub name : name_of copy ≡ name_of source
+  pub meter : has_meter copy ≡ has_meter source
 
 -- so many bytes were handed over into the buffer: they are counted and watched, and the end was met where they do not fill it
 pub record ReadFurther (before : Source) (n : ℕ) (buffer : List ℕ) (after : Source) : Type 0 where
