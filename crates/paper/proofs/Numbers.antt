@@ -7,11 +7,8 @@ use mathlib.Core.List.{List}
 use lib.Dec.{eqb, T}
 use Rattle.paper.specs.declared.answer.Fault.{Fault}
 use Rattle.paper.specs.declared.answer.Fault.TheVariants.{Length, Format, Amount, Additional, Counter, Date, Reserved, Account, Reference, Information, Currency, Roster, Room, Tray, Entity, Identifier, Reason}
-use Rattle.paper.specs.declared.answer.Answer.{Answer}
-use Rattle.paper.specs.declared.answer.Answer.TheVariants.{Accepted, Refused}
-use Rattle.paper.specs.declared.answer.Output.{Output}
-use Rattle.paper.specs.declared.answer.Output.TheVariants as output
-use Rattle.paper.specs.Answers.{Said, accepted, refused, number_of, table_numbers, said}
+use Rattle.std.specs.Prelude.{Ok, Err}
+use Rattle.paper.specs.Answers.{Answer, Output, Said, accepted, refused, refusal, number_of, table_numbers, said}
 use Rattle.paper.specs.Fields.{among}
 use Rattle.paper.specs.Buffers.{Outcome, told}
 use Rattle.paper.specs.Demands.{Answered}
@@ -75,25 +72,25 @@ module _ (stands : Said → Type 0) where
   answered a h t = go a (subst stands (sym h) t)
     where
       go : (b : Answer) → stands (said b) → Answered stands (said b)
-      go Accepted t = tt
-      go (Refused f place) t = (in_table f, t)
+      go (Ok done) t = tt
+      go (Err r) t = (in_table r.fault, t)
 
   pub told_answered : (o : Output) (after : List ℕ) {x : Said} → (told o after).answer ≡ x → stands x → Answered stands (told o after).answer
   told_answered o after h t = go o (subst stands (sym h) t)
     where
       go : (b : Output) → stands (told b after).answer → Answered stands (told b after).answer
-      go (output.Accepted n) t = tt
-      go (output.Refused f place) t = (in_table f, t)
+      go (Ok n) t = tt
+      go (Err r) t = (in_table r.fault, t)
 
 -- the answer that says it
 answering : Said → Answer
-answering accepted = Accepted
-answering (refused n place) = Refused (named n) place
+answering accepted = Ok tt
+answering (refused n place) = refusal (named n) place
 
 answering_said : (a : Answer) → answering (said a) ≡ a
 unfolding answering
-answering_said Accepted = refl
-answering_said (Refused f place) = ap (λ (g : Fault). Refused g place) (named_number f)
+answering_said (Ok done) = refl
+answering_said (Err r) = ap (λ (g : Fault). refusal g r.place) (named_number r.fault)
 
 -- two answers that say the same are the same
 pub said_once : (a b : Answer) → said a ≡ said b → a ≡ b
@@ -101,17 +98,17 @@ said_once a b h = sym (answering_said a) ∙ ap answering h ∙ answering_said b
 
 -- the output that is told so
 telling : Said → ℕ → Output
-telling accepted n = output.Accepted n
-telling (refused m place) n = output.Refused (named m) place
+telling accepted n = Ok n
+telling (refused m place) n = refusal (named m) place
 
 telling_told : (a : Output) (x : List ℕ) → telling (told a x).answer (told a x).size ≡ a
 unfolding telling
-telling_told (output.Accepted n) x = refl
-telling_told (output.Refused f place) x = ap (λ (g : Fault). output.Refused g place) (named_number f)
+telling_told (Ok n) x = refl
+telling_told (Err r) x = ap (λ (g : Fault). refusal g r.place) (named_number r.fault)
 
 told_buffer : (a : Output) (x : List ℕ) → (told a x).buffer ≡ x
-told_buffer (output.Accepted n) x = refl
-told_buffer (output.Refused f place) x = refl
+told_buffer (Ok n) x = refl
+told_buffer (Err r) x = refl
 
 -- two outputs that are told the same are the same, with the same buffer
 pub told_once : (a b : Output) (x y : List ℕ) → told a x ≡ told b y → (a ≡ b) × (x ≡ y)
@@ -121,9 +118,9 @@ told_once a b x y h = (
 )
 
 -- a job that writes refuses with this fault exactly where that is what it says
-pub told_refused : (o : Output) (after : List ℕ) (fault : Fault) (place : ℕ) → (o ≡ output.Refused fault place) ↔ ((told o after).answer ≡ refused (number_of fault) place)
+pub told_refused : (o : Output) (after : List ℕ) (fault : Fault) (place : ℕ) → (o ≡ refusal fault place) ↔ ((told o after).answer ≡ refused (number_of fault) place)
 told_refused o after fault place = ((λ h. ap (λ (x : Output). (told x after).answer) h), go o)
   where
-    go : (x : Output) → (told x after).answer ≡ refused (number_of fault) place → x ≡ output.Refused fault place
-    go (output.Accepted n) h = absurd (refused_not (sym h))
-    go (output.Refused f p) h = let n : number_of f ≡ number_of fault = cc in let q : p ≡ place = cc in rw (own_number f fault n, q) refl
+    go : (x : Output) → (told x after).answer ≡ refused (number_of fault) place → x ≡ refusal fault place
+    go (Ok n) h = absurd (refused_not (sym h))
+    go (Err r) h = let n : number_of r.fault ≡ number_of fault = cc in let q : r.place ≡ place = cc in rw (own_number r.fault fault n, q) refl

@@ -1,9 +1,8 @@
 -- Numbers on the counter: an answer is acceptance or a refusal number with a place. Record places count from 0.
-use Rattle.std.specs.Prelude.{ℕ, Bool, true, false, List, [], ◌∷◌}
+use Rattle.std.specs.Prelude.{ℕ, Bool, true, false, List, [], ◌∷◌, Result, Ok, Err}
 use Rattle.paper.specs.declared.answer.Fault.{Fault}
 use Rattle.paper.specs.declared.answer.Fault.TheVariants.{Length, Format, Amount, Additional, Counter, Date, Reserved, Account, Reference, Information, Currency, Roster, Room, Tray, Entity, Identifier, Reason}
-use Rattle.paper.specs.declared.answer.Answer.{Answer}
-use Rattle.paper.specs.declared.answer.Answer.TheVariants.{Accepted, Refused}
+use Rattle.paper.specs.declared.answer.Refusal.{Refusal}
 
 -- what the desk says, in this paper's numbers: the refusal number, then the place
 pub data Said : Type 0 where
@@ -34,10 +33,21 @@ number_of Reason = 214
 abbrev pub table_numbers : List ℕ
 table_numbers = 201 ∷ 17 ∷ 19 ∷ 25 ∷ 27 ∷ 75 ∷ 77 ∷ 78 ∷ 79 ∷ 87 ∷ 203 ∷ 204 ∷ 206 ∷ 207 ∷ 208 ∷ 209 ∷ 214 ∷ []
 
+-- what a job of the library answers, and one that writes into a lent buffer
+abbrev pub Answer : Type 0
+Answer = Result (Unit {0}) Refusal
+
+abbrev pub Output : Type 0
+Output = Result ℕ Refusal
+
+-- this refusal, in place of whatever acceptance would carry
+abbrev pub refusal : {A : Type 0} → Fault → ℕ → Result A Refusal
+refusal fault place = Err (record { fault = fault; place = place })
+
 -- what an answer of the library says
 abbrev pub said : Answer → Said
-said Accepted = accepted
-said (Refused fault place) = refused (number_of fault) place
+said (Ok done) = accepted
+said (Err r) = refused (number_of r.fault) r.place
 
 -- the first refusal is the answer: one stands, and acceptance asks on
 unfoldable pub and_then : Said → Said → Said

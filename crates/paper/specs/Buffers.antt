@@ -1,10 +1,8 @@
 -- Extracting, building and stripping into a lent buffer: the order of refusals, and the buffer's final bytes.
 -- `extract`, `build` and `strip` are the bytes; `extracting`, `building` and `stripping` are the jobs.
-use Rattle.std.specs.Prelude.{ℕ, ◌%◌, false, ◌&&◌, List, ◌++◌, leb, eqb, length, drop, get_or}
+use Rattle.std.specs.Prelude.{ℕ, ◌%◌, false, ◌&&◌, List, ◌++◌, leb, eqb, length, drop, get_or, Ok, Err}
 use Rattle.paper.specs.declared.rules.Rules.{Rules}
-use Rattle.paper.specs.declared.answer.Output.{Output}
-use Rattle.paper.specs.declared.answer.Output.TheVariants.{Accepted, Refused}
-use Rattle.paper.specs.Answers.{Said, accepted, refused, number_of, and_then, require}
+use Rattle.paper.specs.Answers.{Output, Said, accepted, refused, number_of, and_then, require}
 use Rattle.paper.specs.Fields.{within}
 use Rattle.paper.specs.Reading.{reading, length_good}
 use Rattle.paper.specs.Writing.{blanks}
@@ -19,8 +17,8 @@ pub record Outcome : Type 0 where
 
 -- what a job of the library says, with the buffer that it hands back
 abbrev pub told : Output → List ℕ → Outcome
-told (Accepted n) buffer = record { answer = accepted; size = n; buffer = buffer }
-told (Refused fault place) buffer = record { answer = refused (number_of fault) place; size = 0; buffer = buffer }
+told (Ok n) buffer = record { answer = accepted; size = n; buffer = buffer }
+told (Err r) buffer = record { answer = refused (number_of r.fault) r.place; size = 0; buffer = buffer }
 
 -- the first bytes are new, the rest of the buffer stays
 unfoldable pub over : List ℕ → List ℕ → List ℕ
