@@ -7,23 +7,23 @@ use crate::control;
 use characters::{number, text};
 use paper::answer::Fault;
 use paper::record::Tally;
-use verdicts::verdict::Verdict;
+use verdicts::verdict::need;
 
-pub fn judge(header: &[u8], tally: Tally, rec: &[u8]) -> Verdict
+#[tactic(auto, using(verdicts::proofs::Chain::chain), unfolding(paper::specs::Controls::batch_control))]
+pub fn judge(header: &[u8], tally: Tally, rec: &[u8]) -> Result<(), Fault>
     requires header_len { length header.now ≡ 94 }
     requires rec_len { length rec.now ≡ 94 }
     ensures { check_of result ≡ batch_control header.now tally rec.now }
 {
-    Verdict::Right
-        .need(text::same(rec, 2, 4, header, 2, 4), Fault::Format)
-        .need(text::same(rec, 45, 54, header, 41, 50), Fault::Format)
-        .need(text::same(rec, 80, 87, header, 80, 87), Fault::Format)
-        .need(text::same(rec, 88, 94, header, 88, 94), Fault::Format)
-        .need(number::spells(rec, 5, 10, tally.records), Fault::Format)
-        .need(
-            number::spells(rec, 11, 20, control::last_ten(tally.destinations)),
-            Fault::Format,
-        )
-        .need(number::spells(rec, 21, 32, tally.debits), Fault::Format)
-        .need(number::spells(rec, 33, 44, tally.credits), Fault::Format)
+    need(text::same(rec, 2, 4, header, 2, 4), Fault::Format)?;
+    need(text::same(rec, 45, 54, header, 41, 50), Fault::Format)?;
+    need(text::same(rec, 80, 87, header, 80, 87), Fault::Format)?;
+    need(text::same(rec, 88, 94, header, 88, 94), Fault::Format)?;
+    need(number::spells(rec, 5, 10, tally.records), Fault::Format)?;
+    need(
+        number::spells(rec, 11, 20, control::last_ten(tally.destinations)),
+        Fault::Format,
+    )?;
+    need(number::spells(rec, 21, 32, tally.debits), Fault::Format)?;
+    need(number::spells(rec, 33, 44, tally.credits), Fault::Format)
 }

@@ -7,7 +7,7 @@ use crate::control;
 use characters::number;
 use paper::answer::Fault;
 use paper::record::Tally;
-use verdicts::verdict::Verdict;
+use verdicts::verdict::need;
 
 // All records by tens, rounded up.
 pub fn blocks(all: u64) -> u64
@@ -18,19 +18,19 @@ pub fn blocks(all: u64) -> u64
 }
 
 // Of a file of `all` records, this one included.
-pub fn judge(all: u64, batches: u64, tally: Tally, rec: &[u8]) -> Verdict
+#[tactic(auto, using(verdicts::proofs::Chain::chain), unfolding(paper::specs::Controls::file_control))]
+pub fn judge(all: u64, batches: u64, tally: Tally, rec: &[u8]) -> Result<(), Fault>
     requires all_bound { all ≤ 10000 }
     requires rec_len { length rec.now ≡ 94 }
     ensures { check_of result ≡ file_control all batches tally rec.now }
 {
-    Verdict::Right
-        .need(number::spells(rec, 2, 7, batches), Fault::Format)
-        .need(number::spells(rec, 8, 13, blocks(all)), Fault::Format)
-        .need(number::spells(rec, 14, 21, tally.records), Fault::Format)
-        .need(
-            number::spells(rec, 22, 31, control::last_ten(tally.destinations)),
-            Fault::Format,
-        )
-        .need(number::spells(rec, 32, 43, tally.debits), Fault::Format)
-        .need(number::spells(rec, 44, 55, tally.credits), Fault::Format)
+    need(number::spells(rec, 2, 7, batches), Fault::Format)?;
+    need(number::spells(rec, 8, 13, blocks(all)), Fault::Format)?;
+    need(number::spells(rec, 14, 21, tally.records), Fault::Format)?;
+    need(
+        number::spells(rec, 22, 31, control::last_ten(tally.destinations)),
+        Fault::Format,
+    )?;
+    need(number::spells(rec, 32, 43, tally.debits), Fault::Format)?;
+    need(number::spells(rec, 44, 55, tally.credits), Fault::Format)
 }

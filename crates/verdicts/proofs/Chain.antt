@@ -1,9 +1,34 @@
--- A chain of rules begins without a fault.
+-- A chain of rules: the first fault is what `?` hands back.
+use Prim.Native.Nat.{ℕ}
 use mathlib.Core.Path.{◌≡◌, refl}
-use Rattle.paper.specs.Checks.{Check, ◌also◌}
+use Rattle.std.proofs.Common.{Result, Ok, Err, IsErr}
+use Rattle.std.specs.Prelude.{IsErrAnd}
+use Rattle.std.proofs.lemmas.Result.{err_from_is_err_and}
+use Rattle.paper.specs.declared.answer.Fault.{Fault}
+use Rattle.paper.specs.Answers.{number_of}
+use Rattle.paper.specs.Checks.{Check, fine, wrong, ◌also◌}
 use Rattle.verdicts.specs.Verdicts.{check_of}
-use Rattle.verdicts.specs.declared.verdict.Verdict.TheVariants.{Right}
 
-pub begun : (c : Check) → check_of Right also c ≡ c
-unfolding check_of ◌also◌
-begun c = refl
+pub fine_also : (c : Check) → fine also c ≡ c
+unfolding ◌also◌
+fine_also c = refl
+
+pub wrong_also : (n : ℕ) (c : Check) → wrong n also c ≡ wrong n
+unfolding ◌also◌
+wrong_also n c = refl
+
+pub check_ok : (u : Unit {0}) → check_of (Ok u) ≡ fine
+unfolding check_of
+check_ok u = refl
+
+pub check_err : (f : Fault) → check_of (Err f) ≡ wrong (number_of f)
+unfolding check_of
+check_err f = refl
+
+-- what `?` hands back at a fault
+pub stopped : (f : Fault) (r : Result (Unit {0}) Fault) → IsErr r → IsErrAnd r (λ y. y ≡ f) → check_of r ≡ wrong (number_of f)
+unfolding check_of
+stopped f r e h = let p = err_from_is_err_and r h in rw (p.1, p.2) refl
+
+-- what the check needs of such a chain
+pub ruleset chain = (stopped, fine_also, wrong_also, check_ok, check_err)

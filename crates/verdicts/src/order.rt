@@ -3,35 +3,34 @@ ghost use Rattle.std.specs.Prelude.{◌≡◌};
 ghost use Rattle.paper.specs.Kinds.{allowed};
 ghost use Rattle.verdicts.specs.Verdicts.{check_of};
 
-use crate::verdict::Verdict;
 use paper::answer::Fault;
 use paper::record::{Before, Kind};
 
-pub fn allowed(before: Before, kind: Kind) -> Verdict
+pub fn allowed(before: Before, kind: Kind) -> Result<(), Fault>
     ensures { check_of result ≡ allowed before kind }
 {
     match before {
         Before::Nothing => match kind {
-            Kind::FileHeader => Verdict::Right,
-            _ => Verdict::Wrong(Fault::Format),
+            Kind::FileHeader => Ok(()),
+            _ => Err(Fault::Format),
         },
         Before::Between => match kind {
-            Kind::BatchHeader | Kind::FileControl => Verdict::Right,
-            _ => Verdict::Wrong(Fault::Format),
+            Kind::BatchHeader | Kind::FileControl => Ok(()),
+            _ => Err(Fault::Format),
         },
         Before::Opened => match kind {
-            Kind::Individual => Verdict::Right,
-            _ => Verdict::Wrong(Fault::Format),
+            Kind::Individual => Ok(()),
+            _ => Err(Fault::Format),
         },
         Before::Flagged => match kind {
-            Kind::Additional => Verdict::Right,
-            _ => Verdict::Wrong(Fault::Additional),
+            Kind::Additional => Ok(()),
+            _ => Err(Fault::Additional),
         },
         Before::Inside => match kind {
-            Kind::Individual | Kind::BatchControl => Verdict::Right,
-            Kind::Additional => Verdict::Wrong(Fault::Additional),
-            _ => Verdict::Wrong(Fault::Format),
+            Kind::Individual | Kind::BatchControl => Ok(()),
+            Kind::Additional => Err(Fault::Additional),
+            _ => Err(Fault::Format),
         },
-        Before::Ended => Verdict::Wrong(Fault::Format),
+        Before::Ended => Err(Fault::Format),
     }
 }
