@@ -40,5 +40,6 @@ pub mod Size
 pub mod Counters
 pub mod BuiltNumbers
 pub mod Pieces
+pub mod Chained
 pub mod Characters
 pub mod Accounts
