@@ -5,7 +5,7 @@ use Rattle.tray.proofs.fault.Goals as goal
 pub returns-then-not-good_at : goal.returns-then-not-good_at
 returns-then-not-good_at c =
     let here = sym c.good_at.ensures in
-    sym (c.loop-place.invariant ∙ stops _ _ c.loop-place-test.true (here ∙ c.if-not-good_at.true))
+    rw c.at.ensures (sym (c.loop-place.invariant ∙ stops _ _ c.loop-place-test.true (here ∙ c.if-not-good_at.true)))
 
 pub loop-place-preserved : goal.loop-place-preserved
 loop-place-preserved c =
