@@ -17,7 +17,12 @@ mod header;
 mod whole;
 
 // Of a file that the reading accepted. Nothing is written before the size is known.
-pub fn extract(currency: Currency, entity: u64, file: &[u8], out: &mut [u8]) -> Result<usize, Refusal>
+pub fn extract(
+    currency: Currency,
+    entity: u64,
+    file: &[u8],
+    out: &mut [u8],
+) -> Result<usize, Refusal>
     requires entity_bound { entity ≤ 499 }
     requires passed { Passed file.now }
     ensures { told result out.new
