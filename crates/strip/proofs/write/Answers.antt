@@ -25,10 +25,6 @@ pub loop-place-preserved : goal.loop-place-preserved
 loop-place-preserved c =
     (omega arith, record_put _ _ c.loop-place.invariant.1 c.requires.1 (omega arith) (rw c.record_at.ensures.0 at c.marked-at.ensures))
 
-pub shape_of-out : goal.shape_of-out
-shape_of-out c =
-    as_long _ _ c.loop-place.invariant.1 c.requires.1
-
 pub returns : goal.returns
 returns c =
     whole_put _ _ c.loop-place.invariant.1 c.requires.1 (omega arith)
