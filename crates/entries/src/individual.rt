@@ -105,8 +105,8 @@ fn addressed(reader: Reader, roster: &[bool; Rules::ROSTER], to: u64) -> Verdict
 }
 
 // Of an entity field of digits, by the number of the first four: the currency mostly fits, so that it is asked first.
-fn destination(terms: Terms, roster: &[bool; Rules::ROSTER], n: u64) -> Verdict
-    ensures { (f : List ℕ) → digits f ≡ true → entity_value f ≡ n → check_of result ≡ destination (under terms roster.now) f }
+fn destination(terms: Terms, n: u64) -> Verdict
+    ensures { (f : List ℕ) → digits f ≡ true → entity_value f ≡ n → check_of result ≡ destination (under terms.entry) f }
 {
     let currency = terms.currency;
     let reader = terms.reader;
@@ -120,9 +120,9 @@ fn destination(terms: Terms, roster: &[bool; Rules::ROSTER], n: u64) -> Verdict
 }
 
 // Positions 2 to 54: the code, whereto, how much and for what.
-fn transfer(terms: Terms, roster: &[bool; Rules::ROSTER], rec: &[u8]) -> Moved
+fn transfer(terms: Terms, rec: &[u8]) -> Moved
     requires { length rec.now ≡ 94 }
-    ensures { (moved_says result ≡ transfer (under terms roster.now) rec.now) × HandsMoved rec.now result }
+    ensures { (moved_says result ≡ transfer (under terms.entry) rec.now) × HandsMoved rec.now result }
 {
     if !kind::known(kind::code(rec)) {
         return Moved::Wrong(Fault::Format);
@@ -130,7 +130,7 @@ fn transfer(terms: Terms, roster: &[bool; Rules::ROSTER], rec: &[u8]) -> Moved
     let Numeral::Digits(entity, branch) = word::halves(rec, 4, 11) else {
         return Moved::Wrong(Fault::Format);
     };
-    let whereto = destination(terms, roster, entity);
+    let whereto = destination(terms, entity);
     if let Verdict::Wrong(fault) = whereto {
         return Moved::Wrong(fault);
     }
@@ -200,16 +200,15 @@ fn closing(header: &[u8], previous: u64, rec: &[u8], destination: u64, amount: u
 
 pub fn judge(
     terms: Terms,
-    roster: &[bool; Rules::ROSTER],
     header: &[u8],
     previous: u64,
     rec: &[u8],
 ) -> Judged
     requires header_len { length header.now ≡ 94 }
     requires rec_len { length rec.now ≡ 94 }
-    ensures { (judged_says result ≡ individual (under terms roster.now) header.now previous rec.now) × HandsOn rec.now result }
+    ensures { (judged_says result ≡ individual (under terms.entry) header.now previous rec.now) × HandsOn rec.now result }
 {
-    match transfer(terms, roster, rec) {
+    match transfer(terms, rec) {
         Moved::Good(destination, amount) => closing(header, previous, rec, destination, amount),
         Moved::Wrong(fault) => Judged::Wrong(fault),
     }

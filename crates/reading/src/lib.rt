@@ -113,7 +113,6 @@ fn is_entry(kind: Kind) -> bool
 // One of these. Its kind is written out, so that the compiler knows what may stand before it.
 fn entry(
     terms: Terms,
-    roster: &[bool; Rules::ROSTER],
     file: &[u8],
     clean: bool,
     place: usize,
@@ -123,13 +122,13 @@ fn entry(
     requires arrived { Arrived file.now place state }
     requires place_value { clean ≡ true → every good (record_at file.now place) ≡ true }
     requires place_value_2 { (kind_of (record_at file.now place) ≡ kind) × (is_entry kind ≡ true) }
-    ensures { Comes (taken (under terms roster.now) file.now place state) file.now place result }
+    ensures { Comes (taken (under terms.entry) file.now place state) file.now place result }
 {
     let rec = place::record_at(file, place);
     let before = state.before;
     match kind {
         Kind::Individual => match stands(clean, rec, before, Kind::Individual) {
-            Verdict::Right => individual::step(terms, roster, file, place, state),
+            Verdict::Right => individual::step(terms, file, place, state),
             Verdict::Wrong(fault) => Step::Stop(fault),
         },
         Kind::Additional => match stands(clean, rec, before, Kind::Additional) {
@@ -143,7 +142,6 @@ fn entry(
 // Entries in turn, up to a record that is none.
 fn entries(
     terms: Terms,
-    roster: &[bool; Rules::ROSTER],
     file: &[u8],
     front: usize,
     records: usize,
@@ -151,7 +149,7 @@ fn entries(
     state: State,
 ) -> Run
     requires { Underway file.now records front place state }
-    ensures { Runs (under terms roster.now) file.now records place state result }
+    ensures { Runs (under terms.entry) file.now records place state result }
 {
     let mut at = place;
     let mut now = state;
@@ -160,7 +158,7 @@ fn entries(
         if !is_entry(kind) {
             return Run::Reached(at, now);
         }
-        match entry(terms, roster, file, in_front(front, at), at, kind, now) {
+        match entry(terms, file, in_front(front, at), at, kind, now) {
             Step::Next(next) => {
                 now = next;
             }
@@ -176,7 +174,6 @@ fn entries(
 // Any other record. An entry is met here at the beginning of a file only, where it may not stand.
 fn frame(
     terms: Terms,
-    roster: &[bool; Rules::ROSTER],
     file: &[u8],
     clean: bool,
     place: usize,
@@ -185,7 +182,7 @@ fn frame(
     requires arrived { Arrived file.now place state }
     requires place_value { clean ≡ true → every good (record_at file.now place) ≡ true }
     requires framed { Framed file.now place state }
-    ensures { Comes (taken (under terms roster.now) file.now place state) file.now place result }
+    ensures { Comes (taken (under terms.entry) file.now place state) file.now place result }
 {
     let rec = place::record_at(file, place);
     let kind = kind::kind(rec);
@@ -195,8 +192,8 @@ fn frame(
         return Step::Stop(fault);
     }
     match kind {
-        Kind::FileHeader => file_header::step(terms, roster, file, place, state),
-        Kind::BatchHeader => batch_header::step(terms, roster, file, place, state),
+        Kind::FileHeader => file_header::step(terms, file, place, state),
+        Kind::BatchHeader => batch_header::step(terms, file, place, state),
         Kind::BatchControl => batch_control::step(file, place, state),
         Kind::FileControl => file_control::step(file, place, state),
         Kind::Individual => Step::Stop(Fault::Format),
@@ -208,7 +205,6 @@ fn frame(
 // A record that is no entry, and the entries that follow it.
 fn onward(
     terms: Terms,
-    roster: &[bool; Rules::ROSTER],
     file: &[u8],
     front: usize,
     records: usize,
@@ -217,10 +213,10 @@ fn onward(
 ) -> Run
     requires underway { Underway file.now records front place state }
     requires place_lt_records { (place < records) × Framed file.now place state }
-    ensures { Runs (under terms roster.now) file.now records place state result × Further place result }
+    ensures { Runs (under terms.entry) file.now records place state result × Further place result }
 {
-    match frame(terms, roster, file, in_front(front, place), place, state) {
-        Step::Next(next) => entries(terms, roster, file, front, records, place + 1, next),
+    match frame(terms, file, in_front(front, place), place, state) {
+        Step::Next(next) => entries(terms, file, front, records, place + 1, next),
         Step::Stop(fault) => Run::Stopped(fault, place),
     }
 }
@@ -235,8 +231,8 @@ fn finish(before: Before, records: usize) -> Reading
     }
 }
 
-pub fn read(terms: Terms, roster: &[bool; Rules::ROSTER], file: &[u8]) -> Reading
-    ensures { (reading_says result ≡ reading_by (under terms roster.now) file.now) × Carries (length file.now / 94) result }
+pub fn read(terms: Terms, file: &[u8]) -> Reading
+    ensures { (reading_says result ≡ reading_by (under terms.entry) file.now) × Carries (length file.now / 94) result }
 {
     if !length_good(file.len()) {
         return Reading::Refused(Fault::Length, 0);
@@ -246,7 +242,7 @@ pub fn read(terms: Terms, roster: &[bool; Rules::ROSTER], file: &[u8]) -> Readin
     let mut state = State::START;
     let mut place: usize = 0;
     while place < records {
-        match onward(terms, roster, file, front, records, place, state) {
+        match onward(terms, file, front, records, place, state) {
             Run::Reached(at, after) => {
                 place = at;
                 state = after;

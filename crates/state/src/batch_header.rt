@@ -12,16 +12,15 @@ use verdicts::verdict::Verdict;
 
 pub fn step(
     terms: Terms,
-    roster: &[bool; Rules::ROSTER],
     file: &[u8],
     place: usize,
     state: State,
 ) -> Step
     requires { Ready BatchHeader file.now place state }
-    ensures { Steps BatchHeader (under terms roster.now) file.now place state result }
+    ensures { Steps BatchHeader (under terms.entry) file.now place state result }
 {
     let rec = record_at(file, place);
-    match batch_header::judge(terms, roster, state.batches, rec) {
+    match batch_header::judge(terms, state.batches, rec) {
         Verdict::Right => Step::Next(state.past(Kind::BatchHeader, place)),
         Verdict::Wrong(fault) => Step::Stop(fault),
     }

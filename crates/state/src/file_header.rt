@@ -12,16 +12,15 @@ use verdicts::verdict::Verdict;
 
 pub fn step(
     terms: Terms,
-    roster: &[bool; Rules::ROSTER],
     file: &[u8],
     place: usize,
     state: State,
 ) -> Step
     requires { Ready FileHeader file.now place state }
-    ensures { Steps FileHeader (under terms roster.now) file.now place state result }
+    ensures { Steps FileHeader (under terms.entry) file.now place state result }
 {
     let rec = record_at(file, place);
-    match file_header::judge(terms, roster, rec) {
+    match file_header::judge(terms, rec) {
         Verdict::Right => Step::Next(state.past(Kind::FileHeader, place)),
         Verdict::Wrong(fault) => Step::Stop(fault),
     }

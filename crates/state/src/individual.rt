@@ -14,17 +14,16 @@ use paper::rules::{Rules, Terms};
 
 pub fn step(
     terms: Terms,
-    roster: &[bool; Rules::ROSTER],
     file: &[u8],
     place: usize,
     state: State,
 ) -> Step
     requires { Ready Individual file.now place state }
-    ensures { Steps Individual (under terms roster.now) file.now place state result }
+    ensures { Steps Individual (under terms.entry) file.now place state result }
 {
     let rec = record_at(file, place);
     let header = record_at(file, state.header);
-    match entries::individual::judge(terms, roster, header, state.counter, rec) {
+    match entries::individual::judge(terms, header, state.counter, rec) {
         Judged::Good(entry) => {
             match numbers::judge(file, place, entry.counter, state.highest, state.fresh) {
                 Number::New(fresh) => {

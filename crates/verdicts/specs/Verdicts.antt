@@ -10,5 +10,5 @@ unfoldable pub check_of : Result (Unit {0}) Fault → Check
 check_of (Ok done) = fine
 check_of (Err fault) = wrong (number_of fault)
 
-abbrev pub under : Terms → List Bool → ReadingRules
-under terms roster = record { session = record { date = terms.date; currency = terms.currency; roster = roster }; reader = terms.reader }
+abbrev pub under : Terms → ReadingRules
+under terms = record { session = record { date = terms.date; currency = terms.currency; roster = terms.roster.now }; reader = terms.reader }
