@@ -17,16 +17,16 @@ pub wrong_also : (n : ℕ) (c : Check) → wrong n also c ≡ wrong n
 unfolding ◌also◌
 wrong_also n c = refl
 
-pub check_ok : (u : Unit {0}) → check_of (Ok u) ≡ fine
+pub check_ok : {A : Type 0} (x : A) → check_of (Ok x) ≡ fine
 unfolding check_of
-check_ok u = refl
+check_ok x = refl
 
-pub check_err : (f : Fault) → check_of (Err f) ≡ wrong (number_of f)
+pub check_err : (A : Type 0) (f : Fault) → check_of {A = A} (Err f) ≡ wrong (number_of f)
 unfolding check_of
-check_err f = refl
+check_err A f = refl
 
 -- what `?` hands back at a fault
-pub stopped : (f : Fault) (r : Result (Unit {0}) Fault) → IsErr r → IsErrAnd r (λ y. y ≡ f) → check_of r ≡ wrong (number_of f)
+pub stopped : {A : Type 0} (f : Fault) (r : Result A Fault) → IsErr r → IsErrAnd r (λ y. y ≡ f) → check_of r ≡ wrong (number_of f)
 unfolding check_of
 stopped f r e h = let p = err_from_is_err_and r h in rw (p.1, p.2) refl
 

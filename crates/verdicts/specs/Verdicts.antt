@@ -6,8 +6,8 @@ use Rattle.paper.specs.Answers.{number_of}
 use Rattle.paper.specs.Checks.{Check, fine, wrong}
 use Rattle.paper.specs.Records.{ReadingRules}
 
-unfoldable pub check_of : Result (Unit {0}) Fault → Check
-check_of (Ok done) = fine
+unfoldable pub check_of : {A : Type 0} → Result A Fault → Check
+check_of (Ok x) = fine
 check_of (Err fault) = wrong (number_of fault)
 
 abbrev pub under : Terms → ReadingRules
