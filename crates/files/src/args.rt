@@ -7,6 +7,8 @@ use std::rt::Env;
 pub fn word<'a>(words: &impl Env, i: usize, buf: &'a mut [u8]) -> &'a [u8]
     ensures { length result.now ≤ length buf.old }
 {
-    let length = words.arg(i, buf).unwrap_or(0);
-    &buf[..length]
+    match words.arg(i, buf) {
+        Ok(length) => &buf[..length],
+        Err(_) => b"",
+    }
 }
