@@ -1,18 +1,16 @@
-use Rattle.std.proofs.Common.{arith, refl}
+use Rattle.std.proofs.Common.{add-one, drop-cons, sym}
+use lib.ListN.{drop_of_length-le}
 use Rattle.typed.specs.Words.{grown_by}
-use Rattle.typed.proofs.Steps.{pass_turn, pass_end}
 use Rattle.typed.proofs.words.grown_by.Goals as goal
 
-pub loop-i-preserved : goal.loop-i-preserved
+pub loop-b-preserved : goal.loop-b-preserved
 unfolding grown_by
-loop-i-preserved c =
-    pass_turn _ (grown_by c.args.most) (λ n. refl) (λ n b bs. refl) c.args.word.now 0 c.loop-i.n c.loop-i.i c.loop-i.invariant
-    c.loop-i-test.true c.grown-n.ensures.0
+loop-b-preserved c =
+    let next = drop-cons c.args.word.now c.loop-b.b-index 0 c.loop-b-test.true in
+    rw (add-one, c.grown-n.ensures.0) (rw next at c.loop-b.invariant)
 
 pub returns : goal.returns
 unfolding grown_by
 returns c =
-    pass_end _ (grown_by c.args.most) (λ n. refl) (λ n b bs. refl) c.args.word.now 0 c.loop-i.n c.loop-i.i c.loop-i.invariant c.loop-i-test.false
-
-pub loop-i-init : goal.loop-i-init
-loop-i-init c = (omega arith, refl)
+    let done = drop_of_length-le c.args.word.now c.loop-b-test.false in
+    sym (rw done at c.loop-b.invariant)

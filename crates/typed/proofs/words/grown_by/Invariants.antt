@@ -1,10 +1,6 @@
-use Rattle.std.proofs.Common.{length, ◌-◌}
+use Rattle.std.proofs.Common.{◌≡◌, drop}
 use Rattle.typed.specs.Words.{grown_by}
-use Rattle.typed.proofs.Steps.{Passed}
 use Rattle.typed.proofs.words.grown_by.Given as goal
 
-abbrev pub invariant-loop-i : goal.invariant-loop-i
-invariant-loop-i l = Passed (grown_by l.most) l.word l.initial.n l.n l.i
-
-abbrev pub decreases-loop-i : goal.decreases-loop-i
-decreases-loop-i l = length l.word - l.i
+abbrev pub invariant-loop-b : goal.invariant-loop-b
+invariant-loop-b l = grown_by l.most 0 l.word ≡ grown_by l.most l.n (drop l.b-index l.word)
