@@ -1,5 +1,5 @@
--- What the functions come to, step by step: a word as a field, the marks one after the other.
-use Prim.Native.Nat.{ℕ, suc, ◌+◌, ◌-◌, ◌≤◌, ◌<◌}
+-- What the functions come to, step by step: a word by its characters, the marks one after the other.
+use Prim.Native.Nat.{ℕ, suc, ◌+◌, ◌≤◌, ◌<◌}
 use native.Mathlib.Nat.{add-zero}
 use native.Mathlib.Numerals.{add-one}
 use native.Mathlib.Omega.{arith}
@@ -10,15 +10,13 @@ use lib.Dec.{eqb}
 use lib.ListN.{length, get_or, take, drop, set, length-append, length-set}
 use lib.Seq.{drop-cons, take-suc, take_all, length-take-le, append_snoc, set-append_seam}
 use Rattle.std.specs.Cmp.Lexicographic.{pointwise}
-use Rattle.paper.specs.Fields.{field, same}
+use Rattle.std.specs.Prelude.{fold}
+use Rattle.typed.specs.Words.{grown, grown_by}
+use Rattle.paper.specs.Fields.{same}
 use Rattle.paper.specs.Buffers.{over}
 use Rattle.typed.specs.Rosters.{numbers_marked}
 
 -- ---- a word
-
--- the field of all its positions
-pub whole : (word : List ℕ) (last : ℕ) → length word ≡ last → field word 1 last ≡ word
-whole word last h = take_all (last + 1 - 1) word (omega arith)
 
 -- the library's equality of bytes is that of fields
 pub same_is : (word name : List ℕ) → pointwise eqb word name ≡ same word name
@@ -27,6 +25,12 @@ same_is [] [] = refl
 same_is [] (y ∷ name) = refl
 same_is (x ∷ word) [] = refl
 same_is (x ∷ word) (y ∷ name) = ap (λ (b : Bool). eqb x y && b) (same_is word name)
+
+-- a word's number, character by character
+pub folded : (most n : ℕ) (word : List ℕ) → fold (grown most) n word ≡ grown_by most n word
+unfolding grown_by
+folded most n [] = refl
+folded most n (b ∷ bs) = folded most (grown most n b) bs
 
 -- ---- the numbers of the marks, written one after the other
 

@@ -37,7 +37,8 @@ pub fn date(word: &[u8]) -> u64
 #[tactic(auto, unfolding(crate::specs::Words::grown))]
 pub fn grown(most: u64, n: u64, b: u8) -> u64
     requires { most < 10000 }
-    ensures { (result ≡ grown most n b) × (result ≤ most * 10 + 9) }
+    ensures value { result ≡ grown most n b }
+    ensures bound { result ≤ most * 10 + 9 }
 {
     if !byte::digit(b) {
         return most + 1;
@@ -49,15 +50,12 @@ pub fn grown(most: u64, n: u64, b: u8) -> u64
 }
 
 // The number after the whole word.
+#[tactic(auto, using(crate::proofs::Steps::folded))]
 fn grown_by(most: u64, word: &[u8]) -> u64
     requires { most < 10000 }
     ensures { result ≡ grown_by most 0 word.now }
 {
-    let mut n = 0;
-    for b in word {
-        n = grown(most, n, *b);
-    }
-    n
+    word.iter().fold(0, |n, b| grown(most, n, *b))
 }
 
 #[tactic(auto, unfolding(crate::specs::Words::entity_typed))]
@@ -72,7 +70,7 @@ pub fn entity(word: &[u8]) -> u64
 pub fn place(word: &[u8]) -> usize
     ensures { result ≡ place_typed word.now }
 {
-    if word.len() == 0 {
+    if word.is_empty() {
         return RECORDS;
     }
     grown_by(RECORDS as u64 - 1, word) as usize
