@@ -1,10 +1,15 @@
--- What an answer of showing says, in the paper's numbers.
+-- What showing says, in the paper's numbers.
+use Rattle.std.specs.Prelude.{Result, Ok, Err}
+use Rattle.paper.specs.declared.answer.Refusal.{Refusal}
 use Rattle.paper.specs.Answers.{accepted, refused, number_of}
-use Rattle.paper.specs.Receiving.{in_file, in_motives, nowhere, Showing}
+use Rattle.paper.specs.Receiving.{TextPlace, in_file, in_motives, nowhere, Showing}
 use Rattle.reasons.specs.declared.Shown.{Shown}
-use Rattle.reasons.specs.declared.Shown.TheVariants.{File, Motives, Refused}
+use Rattle.reasons.specs.declared.Shown.TheVariants.{File, Motives}
 
-abbrev pub showing_of : Shown → Showing
-showing_of (File at) = record { answer = accepted; text = in_file at }
-showing_of (Motives at) = record { answer = accepted; text = in_motives at }
-showing_of (Refused fault place) = record { answer = refused (number_of fault) place; text = nowhere }
+abbrev pub place_of : Shown → TextPlace
+place_of (File at) = in_file at
+place_of (Motives at) = in_motives at
+
+abbrev pub showing_of : Result Shown Refusal → Showing
+showing_of (Ok shown) = record { answer = accepted; text = place_of shown }
+showing_of (Err r) = record { answer = refused (number_of r.fault) r.place; text = nowhere }

@@ -2,36 +2,31 @@
 #![tactic(auto)]
 
 ghost use Rattle.std.specs.Prelude.{◌≡◌, ◌*◌, ◌-◌, ◌≤◌, ◌<◌, length, take, drop};
-ghost use Rattle.paper.specs.Answers.{accepted, require, said};
+ghost use Rattle.paper.specs.Answers.{require};
 ghost use Rattle.paper.specs.Receiving.{explains, explains_at, text_at, shown_if, text_in};
 ghost use Rattle.field.specs.Places.{InFile};
-ghost use Rattle.reasons.specs.Shown.{showing_of};
+ghost use Rattle.reasons.specs.Shown.{place_of, showing_of};
 
 use characters::{number, text};
 use field::kind;
 use field::place::{Record, record_at};
-use paper::answer::{Answer, Fault};
+use paper::answer::{Fault, Refusal};
 use paper::record::Kind;
 
-// Acceptance says at which byte of the file, or of the motive list, the text begins; or a refusal with its place.
-#[derive(Clone, Copy)]
+// Where the text of a reason stands: at which byte of the file, or of the motive list, it begins.
+#[derive(Clone, Copy, PartialEq, Eq)]
 pub enum Shown {
     File(usize),
     Motives(usize),
-    Refused(Fault, usize),
 }
 
 // The text that begins at a byte, as far as there are bytes.
+#[tactic(auto, using(crate::proofs::Parts::front))]
 fn part(bytes: &[u8], at: usize) -> &[u8]
     ensures { result.now ≡ take 44 (drop at bytes.now) }
 {
-    if bytes.len() <= at {
-        return &bytes[0..0];
-    }
-    if bytes.len() - at < Shown::TEXT {
-        return &bytes[at..];
-    }
-    &bytes[at..at + Shown::TEXT]
+    let rest = &bytes[at.min(bytes.len())..];
+    &rest[..Shown::TEXT.min(rest.len())]
 }
 
 impl Shown {
@@ -40,25 +35,14 @@ impl Shown {
     // Bytes of a motive list: one hundred lines.
     pub const MOTIVES: usize = 100 * Shown::TEXT;
 
-    // The answer alone.
-    pub fn answer(self) -> Answer
-        ensures { said result ≡ (showing_of self).answer }
-    {
-        match self {
-            Shown::File(_) => Answer::Accepted,
-            Shown::Motives(_) => Answer::Accepted,
-            Shown::Refused(fault, place) => Answer::Refused(fault, place),
-        }
-    }
-
-    // The text itself, a part of the file or of the motive list; no bytes where it was refused.
+    // The text itself, a part of the file or of the motive list.
+    #[tactic(auto, unfolding(paper::specs::Receiving::text_in))]
     pub fn text<'a>(self, file: &'a [u8], motives: &'a [u8]) -> &'a [u8]
-        ensures { result.now ≡ text_in (showing_of self).text file.now motives.now }
+        ensures { result.now ≡ text_in (place_of self) file.now motives.now }
     {
         match self {
             Shown::File(at) => part(file, at),
             Shown::Motives(at) => part(motives, at),
-            Shown::Refused(_, _) => &file[0..0],
         }
     }
 }
@@ -72,9 +56,10 @@ fn line(number: u64) -> usize
 }
 
 // Positions 36-79 where they are not all blank, otherwise the line for the number in 5-6.
+#[tactic(auto, unfolding(paper::specs::Receiving::text_at))]
 fn text_at(file: &[u8], place: usize) -> Shown
     requires { InFile file.now place }
-    ensures { showing_of result ≡ record { answer = accepted; text = text_at file.now place } }
+    ensures { place_of result ≡ text_at file.now place }
 {
     let rec = record_at(file, place);
     if text::blank(rec, 36, 79) {
@@ -84,6 +69,7 @@ fn text_at(file: &[u8], place: usize) -> Shown
 }
 
 // A 7 after a 36 or 31.
+#[tactic(auto, unfolding(paper::specs::Receiving::explains))]
 fn explains(kind: Kind, before: &[u8]) -> bool
     requires { length before.now ≡ 94 }
     ensures { result ≡ explains kind before.now }
@@ -94,27 +80,26 @@ fn explains(kind: Kind, before: &[u8]) -> bool
     }
 }
 
-// The place before this one; before the first there is none other.
-fn previous(place: usize) -> usize
-    ensures { result ≡ place - 1 }
+#[tactic(auto, unfolding(paper::specs::Receiving::explains_at))]
+fn explains_at(file: &[u8], place: usize) -> bool
+    requires { length file.now ≤ 940000 }
+    ensures { result ≡ explains_at file.now place }
 {
-    if 0 < place {
-        return place - 1;
+    if file.len() / Record::LENGTH <= place {
+        return false;
     }
-    place
+    let kind = kind::kind(record_at(file, place));
+    explains(kind, record_at(file, place.saturating_sub(1)))
 }
 
 // Where the text of the reason in the record at a place stands; 214 where that is no rejection's additional record.
-pub fn find(file: &[u8], place: usize) -> Shown
+#[tactic(auto, using(paper::proofs::Chained::chained), unfolding(paper::specs::Receiving::shown_if, paper::specs::Receiving::explains_at))]
+pub fn find(file: &[u8], place: usize) -> Result<Shown, Refusal>
     requires { length file.now ≤ 940000 }
     ensures { showing_of result ≡ shown_if (require (explains_at file.now place) 214 0) (text_at file.now place) }
 {
-    if file.len() / Record::LENGTH <= place {
-        return Shown::Refused(Fault::Reason, 0);
+    if !explains_at(file, place) {
+        return Err(Fault::Reason.at(0));
     }
-    let kind = kind::kind(record_at(file, place));
-    if explains(kind, record_at(file, previous(place))) {
-        return text_at(file, place);
-    }
-    Shown::Refused(Fault::Reason, 0)
+    Ok(text_at(file, place))
 }

@@ -6,16 +6,16 @@ use mathlib.Core.Path.{◌≡◌, refl, sym, ap, ◌∙◌}
 use native.Mathlib.Nat.{zero-add, add-zero, add_assoc}
 use native.Mathlib.Omega.{arith}
 use borrow.Author.Tests.{leb-true, leb-false}
+use Rattle.std.specs.Prelude.{Some, None, Err}
 use lib.Dec.{leb, eqb}
 use lib.ListN.{length, length-append}
-use Rattle.paper.specs.declared.answer.Answer.{Answer}
+use Rattle.paper.specs.declared.answer.Refusal.{Refusal}
 use Rattle.paper.specs.Answers.{Said, accepted, refused, said, and_then, require}
 use Rattle.paper.specs.Buffers.{tray_answer}
 use Rattle.paper.specs.Trays.{tray_records, tray_record_good, tray_fault}
 use Rattle.paper.proofs.Lists.{parts_append}
 use Rattle.paper.proofs.Refusals.{refused_not, and_then_assoc}
 use Rattle.tray.specs.declared.pieces.Pieces.{Pieces}
-use Rattle.tray.specs.declared.pieces.Known.TheVariants.{Finite, Endless}
 use Rattle.tray.specs.Seen.{most_seen, SeenWhole, Seen, ReadOn, Tells}
 use Rattle.tray.proofs.Places.{length_records}
 
@@ -58,6 +58,18 @@ fault_within (t ∷ ts) i {n} {place} h = go (tray_record_good t) h (λ e. omega
     go true e rest = rest e
     go false e rest = let q : i ≡ place = cc in omega arith
 
+-- what is found in records that come so many records later, by what is found in them alone
+pub none_later : (piece : List ℕ) (i : ℕ) → accepted ≡ tray_fault 0 (tray_records piece) → tray_fault i (tray_records piece) ≡ accepted
+none_later piece i h = fault_later (tray_records piece) i ∙ rw (sym h) refl
+
+pub bad_later : (piece : List ℕ) (i n place : ℕ) → refused n place ≡ tray_fault 0 (tray_records piece) → tray_fault i (tray_records piece) ≡ refused n (i + place)
+bad_later piece i n place h = fault_later (tray_records piece) i ∙ rw (sym h) refl
+
+pub bad_within : (piece : List ℕ) (n place : ℕ) → refused n place ≡ tray_fault 0 (tray_records piece) → place < length piece / 96
+bad_within piece n place h = let e = fault_within (tray_records piece) 0 (sym h) in omega (arith, e, length_records piece)
+
+pub ruleset later_in_file = (none_later, bad_later, bad_within)
+
 fault_append : (xs ys : List (List ℕ)) (i : ℕ) → tray_fault i (xs ++ ys) ≡ and_then (tray_fault i xs) (tray_fault (i + length xs) ys)
 unfolding tray_fault and_then
 fault_append [] ys i = rw add-zero
@@ -97,13 +109,13 @@ seen_on p r tray piece s none o = go (leb p.records most_seen) refl
 
 -- of all of a tray, by what is known after its pieces: 207 as of the whole, else 201
 -- (not so with a look that takes a tray without end for one that has ended)
-pub seen_told : (p : Pieces) (header tray : List ℕ) (a : Answer) → Seen p tray → Tells p header (Finite a) → said a ≡ and_then (tray_answer header tray) (refused 201 0)
+pub seen_told : (p : Pieces) (header tray : List ℕ) (r : Refusal) → Seen p tray → Tells p header (Some r) → said (Err r) ≡ and_then (tray_answer header tray) (refused 201 0)
 unfolding tray_answer
-seen_told p header tray a seen t =
+seen_told p header tray r seen t =
     let w = seen.whole t.0 in
     let lengths : Said = require (eqb (length header) 94 && eqb (length tray % 96) 0) 207 0 in
     t.1 ∙ rw (w.faults, w.left) (sym (and_then_assoc lengths (tray_fault 0 (tray_records tray)) (refused 201 0)))
 
 -- one that is told to have no end has more than 2^60 records
-pub seen_endless : (p : Pieces) (header tray : List ℕ) → Seen p tray → Tells p header Endless → most_seen < length tray / 96
+pub seen_endless : (p : Pieces) (header tray : List ℕ) → Seen p tray → Tells p header None → most_seen < length tray / 96
 seen_endless p header tray seen t = seen.endless t

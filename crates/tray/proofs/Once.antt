@@ -4,15 +4,14 @@ use native.Mathlib.Omega.{arith}
 use mathlib.Core.Bool.{Bool, true, false}
 use mathlib.Core.List.{List, []}
 use mathlib.Core.Path.{◌≡◌, refl, sym, ap, ◌∙◌}
+use Rattle.std.specs.Prelude.{Option, Some, None, Err}
 use lib.Dec.{leb, leb→le}
 use borrow.Author.Tests.{leb-false}
-use Rattle.paper.specs.declared.answer.Answer.{Answer}
-use Rattle.paper.specs.Answers.{said}
+use Rattle.paper.specs.declared.answer.Refusal.{Refusal}
+use Rattle.paper.specs.Answers.{Answer, said}
 use Rattle.paper.proofs.Tests.{T_of}
 use Rattle.paper.proofs.Numbers.{said_once}
 use Rattle.tray.specs.declared.pieces.Pieces.{Pieces}
-use Rattle.tray.specs.declared.pieces.Known.{Known}
-use Rattle.tray.specs.declared.pieces.Known.TheVariants.{Finite, Endless}
 use Rattle.tray.specs.Seen.{most_seen, Seen, ReadOn, Tells}
 
 -- what is known is its three parts
@@ -44,8 +43,8 @@ read_once p piece r q s t =
     (λ l. let a = s.further l in let b = t.further l in same_parts r q (a.faults ∙ sym b.faults) (a.records ∙ sym b.records) (a.left ∙ sym b.left))
     (λ l. s.stays l ∙ sym (t.stays l))
 
-pub tells_once : (p : Pieces) (header : List ℕ) (r q : Known) → Tells p header r → Tells p header q → r ≡ q
-tells_once p header (Finite a) (Finite b) s t = ap Finite (said_once a b (s.1 ∙ sym t.1))
-tells_once p header (Finite a) Endless s t = absurd (omega (arith, s.0, t))
-tells_once p header Endless (Finite b) s t = absurd (omega (arith, s, t.0))
-tells_once p header Endless Endless s t = refl
+pub tells_once : (p : Pieces) (header : List ℕ) (r q : Option Refusal) → Tells p header r → Tells p header q → r ≡ q
+tells_once p header (Some a) (Some b) s t = let e = said_once (Err a) (Err b) (s.1 ∙ sym t.1) in cc
+tells_once p header (Some a) None s t = absurd (omega (arith, s.0, t))
+tells_once p header None (Some b) s t = absurd (omega (arith, s, t.0))
+tells_once p header None None s t = refl

@@ -1,7 +1,7 @@
 -- The records of a tray, by their places, and what a tray that 207 does not refuse holds.
 use Prim.Native.Nat.{ℕ, zero, suc, ◌+◌, ◌*◌, ◌/◌, ◌%◌, ◌≤◌, ◌<◌}
 use mathlib.Core.Bool.{◌&&◌}
-use mathlib.Core.List.{List, [], ◌∷◌, map}
+use mathlib.Core.List.{List, [], ◌∷◌, ◌++◌, map}
 use mathlib.Core.Logic.{◌⊎◌, inl, inr}
 use mathlib.Core.Path.{◌≡◌, refl, sym, ap, ◌∙◌}
 use native.Mathlib.Nat.{add-zero, add-suc, zero-mul, suc-mul}
@@ -10,6 +10,7 @@ use native.Mathlib.Omega.{arith}
 use lib.Dec.{T, eqb, eqb→eq}
 use lib.ListN.{length, take, drop, length-drop, length-map, drop_of_length-le}
 use lib.Seq.{take_all, drop-drop}
+use Rattle.std.proofs.lemmas.List.{take_at, drop_at, take-append-drop, length-take}
 use Rattle.paper.specs.declared.record.Kind.{Kind}
 use Rattle.paper.specs.declared.record.Kind.TheVariants.{FileHeader, BatchHeader, Individual, Additional, BatchControl, FileControl, Other}
 use Rattle.paper.specs.Answers.{accepted, require}
@@ -58,6 +59,16 @@ bodies_none tray i h = bodies_drop (tray_records tray) i ∙ ap (map (drop 2)) (
 -- behind its mark a record is its body
 pub body_behind : (t : List ℕ) → length t ≡ 96 → take 94 (drop 2 t) ≡ drop 2 t
 body_behind t l = take_all 94 (drop 2 t) (omega (arith, body t l))
+
+-- a record is its mark and its body
+pub mark_length : (mark : List ℕ) → length mark ≡ 2 → field mark 1 2 ≡ mark
+mark_length mark l = take_all 2 mark (omega arith)
+
+pub good_parts : (mark body : List ℕ) → length mark ≡ 2 → tray_record_good (mark ++ body) ≡ (mark_good (kind_of body) mark && is (field body 88 94) "0000000")
+unfolding tray_record_good
+good_parts mark body l = rw (take_at mark body 2 l, drop_at mark body 2 l) refl
+
+pub ruleset joined = (take-append-drop, length-take, length-drop)
 
 bodies_of : (ts : List (List ℕ)) → Sized 96 ts → Sized 94 (map (drop 2) ts)
 bodies_of [] z = tt

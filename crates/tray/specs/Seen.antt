@@ -1,10 +1,9 @@
 -- A tray looked at in pieces.
-use Rattle.std.specs.Prelude.{ℕ, ◌+◌, ◌/◌, ◌%◌, ◌^◌, ◌≤◌, ◌<◌, ◌&&◌, List, ◌≡◌, eqb, length}
+use Rattle.std.specs.Prelude.{ℕ, ◌+◌, ◌/◌, ◌%◌, ◌^◌, ◌≤◌, ◌<◌, ◌&&◌, List, ◌≡◌, Option, Some, None, Err, eqb, length}
+use Rattle.paper.specs.declared.answer.Refusal.{Refusal}
 use Rattle.paper.specs.Answers.{Said, said, refused, and_then, require}
 use Rattle.paper.specs.Trays.{tray_records, tray_fault}
 use Rattle.tray.specs.declared.pieces.Pieces.{Pieces}
-use Rattle.tray.specs.declared.pieces.Known.{Known}
-use Rattle.tray.specs.declared.pieces.Known.TheVariants.{Finite, Endless}
 
 -- more bytes than 64 bits can count: no tray in memory and no file has so many records
 abbrev pub most_seen : ℕ
@@ -37,6 +36,6 @@ abbrev pub long_answer : Pieces → List ℕ → Said
 long_answer p header = and_then (require (eqb (length header) 94 && eqb p.left 0) 207 0) (and_then (said p.faults) (refused 201 0))
 
 -- it is given of a tray that has an end, and of no other
-abbrev pub Tells : Pieces → List ℕ → Known → Type 0
-Tells p header (Finite a) = (p.records ≤ most_seen) × (said a ≡ long_answer p header)
-Tells p header Endless = most_seen < p.records
+abbrev pub Tells : Pieces → List ℕ → Option Refusal → Type 0
+Tells p header (Some r) = (p.records ≤ most_seen) × (said (Err r) ≡ long_answer p header)
+Tells p header None = most_seen < p.records

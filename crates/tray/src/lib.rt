@@ -1,7 +1,7 @@
 // A tray: records of 96 bytes, a two-byte mark before each 94-byte body.
 #![tactic(auto)]
 
-ghost use Rattle.std.specs.Prelude.{◌≡◌, ◌+◌, ◌*◌, ◌≤◌, ◌++◌, length};
+ghost use Rattle.std.specs.Prelude.{◌≡◌, ◌+◌, ◌*◌, ◌≤◌, ◌++◌, length, take, drop};
 ghost use Rattle.paper.specs.Answers.{said};
 ghost use Rattle.paper.specs.Kinds.{kind_of};
 ghost use Rattle.paper.specs.Trays.{mark_good, tray_record_good, tray_records, tray_fault};
@@ -11,7 +11,7 @@ ghost use Rattle.tray.specs.Trays.{tray_record_at, body_at, bodies, batches_in};
 use characters::text;
 use field::kind;
 use field::place::Record;
-use paper::answer::{Answer, Fault};
+use paper::answer::{Fault, Refusal};
 use paper::record::Kind;
 
 pub mod pieces;
@@ -26,23 +26,26 @@ impl Tray {
     pub const RECORD: usize = Tray::MARK + Record::LENGTH;
 }
 
-fn record_at(tray: &[u8], place: usize) -> &[u8]
-    requires { place * 96 + 96 ≤ length tray.now }
-    ensures { (result.now ≡ tray_record_at tray.now place) × (length result.now ≡ 96) }
+// The record at a place, where each has N bytes.
+#[tactic(auto, using(std::proofs::lemmas::Grind::common_steps))]
+pub fn record_at<const N: usize>(bytes: &[u8], place: usize) -> &[u8]
+    requires { place * N + N ≤ length bytes.now }
+    ensures { (result.now ≡ take N (drop (place * N) bytes.now)) × (length result.now ≡ N) }
 {
-    let at = place * Tray::RECORD;
-    &tray[at..at + Tray::RECORD]
+    let at = place * N;
+    &bytes[at..at + N]
 }
 
+#[tactic(auto, using(crate::proofs::Places::body_behind, paper::proofs::Round::body), unfolding(crate::specs::Trays::body_at, crate::specs::Trays::tray_record_at))]
 pub fn body_at(tray: &[u8], place: usize) -> &[u8]
     requires { place * 96 + 96 ≤ length tray.now }
     ensures { (result.now ≡ body_at tray.now place) × (length result.now ≡ 94) }
 {
-    let rec = record_at(tray, place);
-    &rec[Tray::MARK..Tray::RECORD]
+    &record_at::<{ Tray::RECORD }>(tray, place)[Tray::MARK..]
 }
 
 // The mark that goes with a body's first byte.
+#[tactic(auto, using(crate::proofs::Places::mark_length), unfolding(paper::specs::Trays::mark_good))]
 fn mark_good(mark: &[u8], body: &[u8]) -> bool
     requires { (length mark.now ≡ 2) × (length body.now ≡ 94) }
     ensures { result ≡ mark_good (kind_of body.now) mark.now }
@@ -56,6 +59,7 @@ fn mark_good(mark: &[u8], body: &[u8]) -> bool
 }
 
 // A record that stands on a tray, or is to be put on one: its mark and its body.
+#[tactic(auto, using(crate::proofs::Places::good_parts))]
 pub fn good(mark: &[u8], body: &[u8]) -> bool
     requires { (length mark.now ≡ 2) × (length body.now ≡ 94) }
     ensures { result ≡ tray_record_good (mark.now ++ body.now) }
@@ -63,37 +67,36 @@ pub fn good(mark: &[u8], body: &[u8]) -> bool
     mark_good(mark, body) && text::reads(body, 88, 94, b"0000000")
 }
 
+#[tactic(auto, using(crate::proofs::Places::joined), unfolding(crate::specs::Trays::tray_record_at))]
 fn good_at(tray: &[u8], place: usize) -> bool
     requires { place * 96 + 96 ≤ length tray.now }
     ensures { result ≡ tray_record_good (tray_record_at tray.now place) }
 {
-    let rec = record_at(tray, place);
-    good(&rec[0..Tray::MARK], &rec[Tray::MARK..Tray::RECORD])
+    let (mark, body) = record_at::<{ Tray::RECORD }>(tray, place).split_at(Tray::MARK);
+    good(mark, body)
 }
 
 // 207 at the first bad record.
 #[tactic(auto, using(crate::proofs::Passing::stops, crate::proofs::Passing::goes_on, crate::proofs::Passing::ends))]
-fn fault(tray: &[u8]) -> Answer
+fn fault(tray: &[u8]) -> Result<(), Refusal>
     ensures { said result ≡ tray_fault 0 (tray_records tray.now) }
 {
     let records = tray.len() / Tray::RECORD;
     for place in 0..records {
         if !good_at(tray, place) {
-            return Answer::Refused(Fault::Tray, place);
+            return Err(Fault::Tray.at(place));
         }
     }
-    Answer::Accepted
+    Ok(())
 }
 
 // Lengths first, at 0.
-pub fn answer(header: &[u8], tray: &[u8]) -> Answer
+#[tactic(auto, using(paper::proofs::Chained::chained, std::proofs::lemmas::Bool::Decides::nat_tests), unfolding(paper::specs::Buffers::tray_answer))]
+pub fn answer(header: &[u8], tray: &[u8]) -> Result<(), Refusal>
     ensures { said result ≡ tray_answer header.now tray.now }
 {
-    if header.len() != Record::LENGTH {
-        return Answer::Refused(Fault::Tray, 0);
-    }
-    if tray.len() % Tray::RECORD != 0 {
-        return Answer::Refused(Fault::Tray, 0);
+    if header.len() != Record::LENGTH || tray.len() % Tray::RECORD != 0 {
+        return Err(Fault::Tray.at(0));
     }
     fault(tray)
 }

@@ -6,47 +6,42 @@ ghost use Rattle.tray.specs.Seen.{most_seen, Seen, ReadOn, Tells};
 
 use crate::{Tray, fault};
 use field::place::Record;
-use paper::answer::{Answer, Fault};
+use paper::answer::{Fault, Refusal};
 
 // What is known after some pieces.
 #[derive(Clone, Copy)]
 pub struct Pieces {
     // 207 at the first bad record
-    faults: Answer,
+    faults: Result<(), Refusal>,
     // whole records
     records: usize,
     // bytes after the last whole record
     left: usize,
 }
 
-// What can be told of a tray after all its pieces.
-#[derive(Clone, Copy)]
-pub enum Known {
-    Finite(Answer),
-    Endless,
-}
-
 // A fault found before stays the answer; the piece begins after so many records.
-fn first_bad(before: Answer, records: usize, piece: &[u8]) -> Answer
+#[tactic(auto, using(crate::proofs::ByPieces::later_in_file, paper::proofs::Chained::chained))]
+fn first_bad(before: Result<(), Refusal>, records: usize, piece: &[u8]) -> Result<(), Refusal>
     requires { records ≤ most_seen }
     ensures { said result ≡ and_then (said before) (tray_fault records (tray_records piece.now)) }
 {
-    let found = match fault(piece) {
-        Answer::Accepted => Answer::Accepted,
-        Answer::Refused(fault, place) => Answer::Refused(fault, records + place),
-    };
-    before.and_then(found)
+    before?;
+    match fault(piece) {
+        Ok(()) => Ok(()),
+        Err(bad) => Err(bad.fault.at(records + bad.place)),
+    }
 }
 
 impl Pieces {
     // More bytes than 64 bits can count: no tray in memory and no file has so many records.
     pub const MOST: usize = 1 << 60;
 
+    #[tactic(auto, unfolding(paper::specs::Trays::tray_fault, paper::specs::Trays::tray_records, paper::specs::Reading::parts))]
     pub fn begun() -> Pieces
         ensures { Seen result [] }
     {
         Pieces {
-            faults: Answer::Accepted,
+            faults: Ok(()),
             records: 0,
             left: 0,
         }
@@ -59,29 +54,24 @@ impl Pieces {
         if self.records > Pieces::MOST {
             return self;
         }
-        let before = self.faults;
-        let faults = first_bad(before, self.records, piece);
         Pieces {
-            faults,
+            faults: first_bad(self.faults, self.records, piece),
             records: self.records + piece.len() / Tray::RECORD,
             left: piece.len() % Tray::RECORD,
         }
     }
 
-    // The lengths first, then the first bad record, and last 201.
-    pub fn answer(self, header: &[u8]) -> Known
+    // The lengths first, then the first bad record, and last 201. Nothing can be told of a tray without end.
+    #[tactic(auto, using(paper::proofs::Chained::chained, std::proofs::lemmas::Bool::Decides::nat_tests))]
+    pub fn answer(self, header: &[u8]) -> Option<Refusal>
         ensures { Tells self header.now result }
     {
         if self.records > Pieces::MOST {
-            return Known::Endless;
+            return None;
         }
-        if header.len() != Record::LENGTH {
-            return Known::Finite(Answer::Refused(Fault::Tray, 0));
+        if header.len() != Record::LENGTH || self.left != 0 {
+            return Some(Fault::Tray.at(0));
         }
-        if self.left != 0 {
-            return Known::Finite(Answer::Refused(Fault::Tray, 0));
-        }
-        let faults = self.faults;
-        Known::Finite(faults.and_then(Answer::Refused(Fault::Length, 0)))
+        Some(self.faults.err().unwrap_or(Fault::Length.at(0)))
     }
 }
