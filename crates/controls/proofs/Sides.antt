@@ -1,8 +1,7 @@
 -- An amount of a code of the paper's stands on one side, and any other on neither.
-use Prim.Native.Nat.{ℕ, ◌-◌}
-use mathlib.Core.Bool.{Bool, true, false, cond}
+use Prim.Native.Nat.{ℕ}
+use mathlib.Core.Bool.{cond}
 use mathlib.Core.Path.{◌≡◌, refl}
-use native.Mathlib.Omega.{arith}
 use Rattle.paper.specs.declared.record.Code.{Code}
 use Rattle.paper.specs.declared.record.Code.TheVariants.{Order, Rejection, Reversal, ReversalRejection, Unknown}
 use Rattle.paper.specs.Kinds.{known, collects, pays}
@@ -14,8 +13,3 @@ sides Rejection amount = (refl, refl)
 sides Reversal amount = (refl, refl)
 sides ReversalRejection amount = (refl, refl)
 sides Unknown amount = (refl, refl)
-
--- what does not stand on one side stands on the other
-pub other_side : (debit : Bool) (amount : ℕ) → amount - cond debit amount 0 ≡ cond debit 0 amount
-other_side true amount = omega arith
-other_side false amount = omega arith

@@ -10,6 +10,7 @@ use paper::record::Tally;
 use verdicts::verdict::need;
 
 // All records by tens, rounded up.
+#[tactic(auto, unfolding(paper::specs::Controls::blocks))]
 pub fn blocks(all: u64) -> u64
     requires { all ≤ 10000 }
     ensures { result ≡ blocks all }

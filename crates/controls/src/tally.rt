@@ -17,10 +17,7 @@ pub const NONE: Tally = Tally {
 fn on_side(counts: bool, amount: u64) -> u64
     ensures { (result ≡ cond counts amount 0) × (result ≤ amount) }
 {
-    if counts {
-        return amount;
-    }
-    0
+    if counts { amount } else { 0 }
 }
 
 // One individual record more, by its field 4-11 and its amount, which stands on one side: so no branch goes by the code.
@@ -44,6 +41,7 @@ pub fn with_entry(tally: Tally, destination: u64, debit: bool, amount: u64) -> T
 }
 
 // What is no code of the paper's counts on neither side.
+#[tactic(auto, using(crate::proofs::Sides::sides), unfolding(paper::specs::Controls::with_individual))]
 pub fn with_individual(tally: Tally, rec: &[u8]) -> Tally
     requires rec_len { length rec.now ≡ 94 }
     requires below { Below (10 ^ 18) tally }
@@ -55,18 +53,18 @@ pub fn with_individual(tally: Tally, rec: &[u8]) -> Tally
     with_entry(tally, destination, kind::collects(code), amount)
 }
 
+#[tactic(auto, unfolding(paper::specs::Controls::with_additional))]
 pub fn with_additional(tally: Tally) -> Tally
     requires { Below (10 ^ 18) tally }
     ensures { result ≡ with_additional tally }
 {
     Tally {
         records: tally.records + 1,
-        destinations: tally.destinations,
-        debits: tally.debits,
-        credits: tally.credits,
+        ..tally
     }
 }
 
+#[tactic(auto, unfolding(paper::specs::Controls::plus))]
 pub fn plus(a: Tally, b: Tally) -> Tally
     requires below { Below (10 ^ 18) a }
     requires below_2 { Below (10 ^ 18) b }

@@ -115,8 +115,7 @@ impl Session {
         let Answer::Accepted = answer else {
             return Reply { answer, session };
         };
-        let cells = session.cells;
-        session.cells = ledger::post(cells, file, file.len() / Session::RECORD);
+        ledger::post(&mut session.cells, file);
         session.used[key] = true;
         Reply { answer, session }
     }

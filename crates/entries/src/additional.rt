@@ -6,43 +6,44 @@ ghost use Rattle.verdicts.specs.Verdicts.{check_of};
 use characters::{number, text};
 use field::kind;
 use paper::answer::Fault;
-use verdicts::verdict::Verdict;
+use verdicts::verdict::need;
 
 // After 36 or 31.
-pub fn judge99(individual: &[u8], rec: &[u8]) -> Verdict
+#[tactic(auto, using(verdicts::proofs::Chain::chain), unfolding(paper::specs::Records::additional99))]
+pub fn judge99(individual: &[u8], rec: &[u8]) -> Result<(), Fault>
     requires individual_len { length individual.now ≡ 94 }
     requires rec_len { length rec.now ≡ 94 }
     ensures { check_of result ≡ additional99 individual.now rec.now }
 {
     let motive = text::reads(rec, 4, 4, b"R") & number::digits(rec, 5, 6);
-    Verdict::Right
-        .need(text::reads(rec, 2, 3, b"99"), Fault::Additional)
-        .need(motive, Fault::Format)
-        .need(number::digits(rec, 7, 21), Fault::Format)
-        .need(text::blank(rec, 22, 27), Fault::Format)
-        .need(number::digits(rec, 28, 35), Fault::Format)
-        .need(
-            text::same(rec, 80, 94, individual, 80, 94),
-            Fault::Additional,
-        )
+    need(text::reads(rec, 2, 3, b"99"), Fault::Additional)?;
+    need(motive, Fault::Format)?;
+    need(number::digits(rec, 7, 21), Fault::Format)?;
+    need(text::blank(rec, 22, 27), Fault::Format)?;
+    need(number::digits(rec, 28, 35), Fault::Format)?;
+    need(
+        text::same(rec, 80, 94, individual, 80, 94),
+        Fault::Additional,
+    )
 }
 
 // After the others.
-pub fn judge05(individual: &[u8], rec: &[u8]) -> Verdict
+#[tactic(auto, using(verdicts::proofs::Chain::chain), unfolding(paper::specs::Records::additional05))]
+pub fn judge05(individual: &[u8], rec: &[u8]) -> Result<(), Fault>
     requires individual_len { length individual.now ≡ 94 }
     requires rec_len { length rec.now ≡ 94 }
     ensures { check_of result ≡ additional05 individual.now rec.now }
 {
-    Verdict::Right
-        .need(text::reads(rec, 2, 3, b"05"), Fault::Additional)
-        .need(number::digits(rec, 84, 87), Fault::Format)
-        .need(
-            text::same(rec, 88, 94, individual, 88, 94),
-            Fault::Additional,
-        )
+    need(text::reads(rec, 2, 3, b"05"), Fault::Additional)?;
+    need(number::digits(rec, 84, 87), Fault::Format)?;
+    need(
+        text::same(rec, 88, 94, individual, 88, 94),
+        Fault::Additional,
+    )
 }
 
-pub fn judge(individual: &[u8], rec: &[u8]) -> Verdict
+#[tactic(auto, using(verdicts::proofs::Chain::chain), unfolding(paper::specs::Records::additional))]
+pub fn judge(individual: &[u8], rec: &[u8]) -> Result<(), Fault>
     requires individual_len { length individual.now ≡ 94 }
     requires rec_len { length rec.now ≡ 94 }
     ensures { check_of result ≡ additional individual.now rec.now }

@@ -1,11 +1,12 @@
 // 6, individual.
-ghost use Rattle.std.specs.Prelude.{◌≡◌, true, List, ℕ, ◌<◌, length};
+ghost use Rattle.std.specs.Prelude.{◌≡◌, true, ◌&&◌, List, ℕ, ◌<◌, ltb, length, IfOk};
 ghost use Rattle.paper.specs.Accounts.{account_checked};
 ghost use Rattle.paper.specs.Entities.{entity_value, entity};
-ghost use Rattle.paper.specs.Fields.{digits};
-ghost use Rattle.paper.specs.Records.{amount_of, destination_field, account_good, information_good, flag_good, addressed, destination, transfer, individual};
+ghost use Rattle.paper.specs.Fields.{field, digits};
+ghost use Rattle.paper.specs.Records.{amount_of, destination_field, account_good, information_good, flag_good, addressed, destination, transfer, number_in, individual};
+ghost use Rattle.paper.specs.Checks.{need};
 ghost use Rattle.verdicts.specs.Verdicts.{check_of, under};
-ghost use Rattle.entries.specs.Judging.{moved_says, HandsMoved, judged_says, HandsOn, flag_rules, closing_rules};
+ghost use Rattle.entries.specs.Judging.{entry_of, flag_rules, counter_rules, closing_rules};
 
 use characters::word::Numeral;
 use characters::{number, text, word};
@@ -13,8 +14,8 @@ use field::individual::Sequence;
 use field::{block, entity, individual, kind};
 use paper::answer::Fault;
 use paper::record::Code;
-use paper::rules::{Currency, Reader, Rules, Terms};
-use verdicts::verdict::Verdict;
+use paper::rules::{Currency, Reader, Terms};
+use verdicts::verdict::need;
 
 // The numbers of an individual record.
 #[derive(Clone, Copy)]
@@ -35,20 +36,6 @@ impl Entry {
         amount: 0,
         counter: 0,
     };
-}
-
-// A record without fault with its numbers, each of them read once, or its first fault.
-#[derive(Clone, Copy)]
-pub enum Judged {
-    Good(Entry),
-    Wrong(Fault),
-}
-
-// The same of positions 2 to 54: field 4-11 and the amount.
-#[derive(Clone, Copy)]
-enum Moved {
-    Good(u64, u64),
-    Wrong(Fault),
 }
 
 // One past the largest number of four digits.
@@ -91,126 +78,128 @@ pub fn flag_good(rec: &[u8]) -> bool
 }
 
 // Whom it is for, by who reads.
-fn addressed(reader: Reader, roster: &[bool; Rules::ROSTER], to: u64) -> Verdict
+#[tactic(auto, using(verdicts::proofs::Chain::chain), unfolding(paper::specs::Records::addressed))]
+fn addressed(terms: Terms, to: u64) -> Result<(), Fault>
     requires { to < 500 }
-    ensures { (f : List ℕ) → entity f ≡ to → check_of result ≡ addressed reader roster.now f }
+    ensures { (f : List ℕ) → entity f ≡ to → check_of result ≡ addressed terms.entry.reader terms.entry.roster.now f }
 {
-    match reader {
-        Reader::House => {
-            let e = to as usize;
-            Verdict::Right.need(roster[e], Fault::Roster)
-        }
-        Reader::Desk(desk) => Verdict::Right.need(to == desk, Fault::Format),
+    match terms.reader {
+        Reader::House => need(terms.roster[to as usize], Fault::Roster),
+        Reader::Desk(desk) => need(to == desk, Fault::Format),
     }
 }
 
 // Of an entity field of digits, by the number of the first four: the currency mostly fits, so that it is asked first.
-fn destination(terms: Terms, roster: &[bool; Rules::ROSTER], n: u64) -> Verdict
-    ensures { (f : List ℕ) → digits f ≡ true → entity_value f ≡ n → check_of result ≡ destination (under terms roster.now) f }
+fn destination(terms: Terms, n: u64) -> Result<(), Fault>
+    ensures { (f : List ℕ) → digits f ≡ true → entity_value f ≡ n → check_of result ≡ destination (under terms.entry) f }
 {
-    let currency = terms.currency;
-    let reader = terms.reader;
-    if entity::in_currency(currency, n) {
-        return addressed(reader, roster, entity::own(currency, n));
+    if entity::in_currency(terms.currency, n) {
+        return addressed(terms, entity::own(terms.currency, n));
     }
     if entity::in_currency(Currency::Pesos, n) | entity::in_currency(Currency::Dollars, n) {
-        return Verdict::Wrong(Fault::Currency);
+        return Err(Fault::Currency);
     }
-    Verdict::Wrong(Fault::Format)
+    Err(Fault::Format)
 }
 
-// Positions 2 to 54: the code, whereto, how much and for what.
-fn transfer(terms: Terms, roster: &[bool; Rules::ROSTER], rec: &[u8]) -> Moved
+// Positions 4 to 11. Hands on entity and branch as one number.
+fn whereto(terms: Terms, rec: &[u8]) -> Result<u64, Fault>
     requires { length rec.now ≡ 94 }
-    ensures { (moved_says result ≡ transfer (under terms roster.now) rec.now) × HandsMoved rec.now result }
+    ensures says { check_of result ≡ destination (under terms.entry) (field rec.now 4 11) }
+    ensures hands { IfOk result (λ n. n ≡ destination_field rec.now) }
 {
-    if !kind::known(kind::code(rec)) {
-        return Moved::Wrong(Fault::Format);
-    }
     let Numeral::Digits(entity, branch) = word::halves(rec, 4, 11) else {
-        return Moved::Wrong(Fault::Format);
+        return Err(Fault::Format);
     };
-    let whereto = destination(terms, roster, entity);
-    if let Verdict::Wrong(fault) = whereto {
-        return Moved::Wrong(fault);
-    }
-    if !text::reads(rec, 12, 12, b"0") {
-        return Moved::Wrong(Fault::Reserved);
-    }
-    if !account_good(rec) {
-        return Moved::Wrong(Fault::Account);
-    }
+    destination(terms, entity)?;
+    Ok(entity * FOUR_DIGITS + branch)
+}
+
+// Positions 30 to 39: ten digits that are not all zeros. Hands on the amount.
+#[tactic(auto, using(verdicts::proofs::Chain::chain, crate::proofs::Chains::some_amount))]
+fn amount(rec: &[u8]) -> Result<u64, Fault>
+    requires { length rec.now ≡ 94 }
+    ensures says { check_of result ≡ need (digits (field rec.now 30 39) && ltb 0 (amount_of rec.now)) 19 }
+    ensures hands { IfOk result (λ n. n ≡ amount_of rec.now) }
+{
     let amount = individual::amount(rec);
-    if amount == 0 {
-        return Moved::Wrong(Fault::Amount);
-    }
-    if word::blank(rec, 40, 54) {
-        return Moved::Wrong(Fault::Reference);
-    }
-    Moved::Good(entity * FOUR_DIGITS + branch, amount)
+    need(0 < amount, Fault::Amount)?;
+    Ok(amount)
+}
+
+// Positions 2 to 54: the code, whereto, how much and for what. Hands on field 4-11 and the amount.
+#[tactic(auto, using(verdicts::proofs::Chain::chain), unfolding(paper::specs::Records::transfer))]
+fn transfer(terms: Terms, rec: &[u8]) -> Result<(u64, u64), Fault>
+    requires { length rec.now ≡ 94 }
+    ensures says { check_of result ≡ transfer (under terms.entry) rec.now }
+    ensures hands { IfOk result (λ m. (m.0 ≡ destination_field rec.now) × (m.1 ≡ amount_of rec.now)) }
+{
+    need(kind::known(kind::code(rec)), Fault::Format)?;
+    let destination = whereto(terms, rec)?;
+    need(text::reads(rec, 12, 12, b"0"), Fault::Reserved)?;
+    need(account_good(rec), Fault::Account)?;
+    let amount = amount(rec)?;
+    need(!word::blank(rec, 40, 54), Fault::Reference)?;
+    Ok((destination, amount))
 }
 
 // 1 goes with every code: asked before the code, it leaves one thing to foretell, whether an additional follows.
-fn flag(rec: &[u8]) -> Verdict
+#[tactic(auto, using(verdicts::proofs::Chain::chain), unfolding(crate::specs::Judging::flag_rules))]
+fn flag(rec: &[u8]) -> Result<(), Fault>
     requires { length rec.now ≡ 94 }
     ensures { check_of result ≡ flag_rules rec.now }
 {
     if individual::flagged(rec) {
-        return Verdict::Right;
+        return Ok(());
     }
-    if !text::reads(rec, 79, 79, b"0") {
-        return Verdict::Wrong(Fault::Format);
-    }
-    Verdict::Right.need(flag_good(rec), Fault::Additional)
+    need(text::reads(rec, 79, 79, b"0"), Fault::Format)?;
+    need(flag_good(rec), Fault::Additional)
 }
 
-// Positions 55 to 94, of a record whose transfer is good.
-fn closing(header: &[u8], previous: u64, rec: &[u8], destination: u64, amount: u64) -> Judged
+// Positions 80 to 94, under the batch's header and after the number before. Hands on 88-94.
+#[tactic(auto, using(verdicts::proofs::Chain::chain), unfolding(crate::specs::Judging::counter_rules))]
+fn counter(header: &[u8], previous: u64, rec: &[u8]) -> Result<u64, Fault>
     requires header_len { length header.now ≡ 94 }
     requires rec_len { length rec.now ≡ 94 }
-    requires destination_value { (destination ≡ destination_field rec.now) × (amount ≡ amount_of rec.now) }
-    ensures { (judged_says result ≡ closing_rules header.now previous rec.now) × HandsOn rec.now result }
+    ensures says { check_of result ≡ counter_rules header.now previous rec.now }
+    ensures hands { IfOk result (λ counter. counter ≡ number_in rec.now) }
 {
-    if word::blank(rec, 55, 76) {
-        return Judged::Wrong(Fault::Format);
-    }
-    if !information_good(rec) {
-        return Judged::Wrong(Fault::Information);
-    }
-    let verdict = flag(rec);
-    if let Verdict::Wrong(fault) = verdict {
-        return Judged::Wrong(fault);
-    }
     let Sequence::Number(counter) = individual::counter(rec) else {
-        return Judged::Wrong(Fault::Format);
+        return Err(Fault::Format);
     };
-    if !word::same(rec, 80, 87, header, 80, 87) {
-        return Judged::Wrong(Fault::Counter);
-    }
-    if counter <= previous {
-        return Judged::Wrong(Fault::Counter);
-    }
-    Judged::Good(Entry {
+    let follows = word::same(rec, 80, 87, header, 80, 87) & (previous < counter);
+    need(follows, Fault::Counter)?;
+    Ok(counter)
+}
+
+// Positions 55 to 94. Hands on 88-94.
+#[tactic(auto, using(verdicts::proofs::Chain::chain), unfolding(crate::specs::Judging::closing_rules))]
+fn closing(header: &[u8], previous: u64, rec: &[u8]) -> Result<u64, Fault>
+    requires header_len { length header.now ≡ 94 }
+    requires rec_len { length rec.now ≡ 94 }
+    ensures says { check_of result ≡ closing_rules header.now previous rec.now }
+    ensures hands { IfOk result (λ counter. counter ≡ number_in rec.now) }
+{
+    need(!word::blank(rec, 55, 76), Fault::Format)?;
+    need(information_good(rec), Fault::Information)?;
+    flag(rec)?;
+    counter(header, previous, rec)
+}
+
+// A record without fault hands on its numbers, each of them read once.
+#[tactic(auto, using(verdicts::proofs::Chain::chain, crate::proofs::Chains::in_parts), unfolding(crate::specs::Judging::entry_of))]
+pub fn judge(terms: Terms, header: &[u8], previous: u64, rec: &[u8]) -> Result<Entry, Fault>
+    requires header_len { length header.now ≡ 94 }
+    requires rec_len { length rec.now ≡ 94 }
+    ensures says { check_of result ≡ individual (under terms.entry) header.now previous rec.now }
+    ensures hands { IfOk result (λ entry. entry ≡ entry_of rec.now) }
+{
+    let (destination, amount) = transfer(terms, rec)?;
+    let counter = closing(header, previous, rec)?;
+    Ok(Entry {
         code: kind::code(rec),
         destination,
         amount,
         counter,
     })
-}
-
-pub fn judge(
-    terms: Terms,
-    roster: &[bool; Rules::ROSTER],
-    header: &[u8],
-    previous: u64,
-    rec: &[u8],
-) -> Judged
-    requires header_len { length header.now ≡ 94 }
-    requires rec_len { length rec.now ≡ 94 }
-    ensures { (judged_says result ≡ individual (under terms roster.now) header.now previous rec.now) × HandsOn rec.now result }
-{
-    match transfer(terms, roster, rec) {
-        Moved::Good(destination, amount) => closing(header, previous, rec, destination, amount),
-        Moved::Wrong(fault) => Judged::Wrong(fault),
-    }
 }

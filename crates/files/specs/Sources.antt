@@ -1,15 +1,12 @@
 -- A file that is being read. Its fields are private: other specs speak of it by these words.
-use Rattle.std.specs.Prelude.{ℕ, ◌+◌, ◌^◌, ◌≤◌, ◌<◌, Bool, false, List, ◌≡◌, T, ltb, ℤ, length, take, is_some, option_map, unwrap_or}
+use Rattle.std.specs.Prelude.{ℕ, ◌+◌, ◌^◌, ◌<◌, Bool, false, List, ◌≡◌, T, ltb, ℤ, length, take, is_some, option_map, unwrap_or, Result, IfOk, MatchResult}
 use Rattle.std.specs.Int.Signed.{non_neg}
 use Rattle.std.specs.Fd.{file_raw_fd}
+use Rattle.io.specs.Counts.{IsPrefixLen}
 use Rattle.watch.specs.declared.Watch.{Watch}
 use Rattle.watch.specs.Watches.{place_of, watch_at, watch_on}
 use Rattle.files.specs.declared.taking.Source.{Source}
 use Rattle.files.specs.declared.taking.Failure.{Failure}
-use Rattle.files.specs.declared.taking.Readable.{Readable}
-use Rattle.files.specs.declared.taking.Readable.TheVariants as opened
-use Rattle.files.specs.declared.taking.Filled.{Filled}
-use Rattle.files.specs.declared.taking.Filled.TheVariants as filled
 
 -- the bytes that it has handed over so far
 abbrev pub handed_by : Source → ℕ
@@ -59,9 +56,8 @@ pub record JustOpened (path : List ℕ) (source : Source) : Type 0 where
   pub watch : watch_of source ≡ watch_at (place_of (watch_of source))
   pub ended : has_ended source ≡ false
 
-abbrev pub AsOpened : List ℕ → Readable → Type 0
-AsOpened path (opened.At source) = JustOpened path source
-AsOpened path (opened.Failed failure) = Watched (name_in failure) path
+abbrev pub AsOpened : List ℕ → Result Source Failure → Type 0
+AsOpened path opened = MatchResult opened (JustOpened path) (λ failure. Watched (name_in failure) path)
 
 -- these bytes were handed over: they are counted and watched; and the end was met or not
 pub record GoneOn (before : Source) (bytes : List ℕ) (end : Bool) (after : Source) : Type 0 where
@@ -83,7 +79,7 @@ pub record Copied (source copy : Source) : Type 0 where
 -- so many bytes were handed over into the buffer: they are counted and watched, and the end was met where they do not fill it
 pub record ReadFurther (before : Source) (n : ℕ) (buffer : List ℕ) (after : Source) : Type 0 where
   pub left : handed_by before + length buffer < most_handed
-  pub fits : n ≤ length buffer
+  pub fits : IsPrefixLen n buffer
   pub total : handed_by after ≡ handed_by before + n
   pub watch : watch_of after ≡ watch_on (watch_of before) (take n buffer)
   pub ended : has_ended after ≡ ltb n (length buffer)
@@ -91,9 +87,8 @@ pub record ReadFurther (before : Source) (n : ℕ) (buffer : List ℕ) (after : 
   pub meter : meter_of after ≡ meter_of before
   pub name : name_of after ≡ name_of before
 
-abbrev pub AsFilled : Source → List ℕ → Filled → Type 0
-AsFilled before buffer (filled.Bytes after n) = ReadFurther before n buffer after
-AsFilled before buffer (filled.Failed failure) = name_in failure ≡ name_of before
+abbrev pub AsFilled : Source → List ℕ → Result (Source × ℕ) Failure → Type 0
+AsFilled before buffer filled = MatchResult filled (λ (after, n). ReadFurther before n buffer after) (λ failure. name_in failure ≡ name_of before)
 
 -- this text was handed over since the source was opened
 abbrev pub HandedOver : Source → List ℕ → Type 0
@@ -101,10 +96,9 @@ HandedOver source text = Watched (watch_of source) text
 
 -- a file that is read at once: these bytes of the buffer are what was handed over since it was opened
 pub record FileRead (buffer : List ℕ) (source : Source) (n : ℕ) : Type 0 where
-  pub fits : n ≤ length buffer
+  pub fits : IsPrefixLen n buffer
   pub given : HandedOver source (take n buffer)
   pub ended : has_ended source ≡ ltb n (length buffer)
 
-abbrev pub AsFile : List ℕ → Filled → Type 0
-AsFile buffer (filled.Bytes source n) = FileRead buffer source n
-AsFile buffer (filled.Failed failure) = Unit {0}
+abbrev pub AsFile : List ℕ → Result (Source × ℕ) Failure → Type 0
+AsFile buffer filled = IfOk filled (λ (source, n). FileRead buffer source n)

@@ -1,14 +1,14 @@
 // The words of the call, as they were typed: they need not be text.
-ghost use Rattle.io.specs.Counts.{IsPrefixLen};
+ghost use Rattle.std.specs.Prelude.{◌≤◌, length};
 
 use std::rt::Env;
 
-// A word put into the buffer: its length, or 0 where there is none, or one that is longer than the buffer, which then holds its beginning.
-pub fn word(words: &impl Env, i: usize, buf: &mut [u8]) -> usize
-    ensures { IsPrefixLen result buf.new }
+// A word, put into the buffer: empty where there is none, or one that is longer than the buffer.
+pub fn word<'a>(words: &impl Env, i: usize, buf: &'a mut [u8]) -> &'a [u8]
+    ensures { length result.now ≤ length buf.old }
 {
     match words.arg(i, buf) {
-        Ok(length) => length,
-        Err(_) => 0,
+        Ok(length) => &buf[..length],
+        Err(_) => b"",
     }
 }

@@ -12,52 +12,39 @@ pub enum Ended {
     Undone,
 }
 
+impl Ended {
+    // What its launcher is told.
+    fn line(self) -> &'static [u8] {
+        match self {
+            Ended::Accepted => b"0\n",
+            Ended::Refused => b"1\n",
+            Ended::Undone => b"2\n",
+        }
+    }
+}
+
 // No descriptor that the launcher would name is beyond.
 const MOST: u32 = 9999;
 
-// The number that the digits spell, or one beyond where they are none.
+// The number that the digits spell, or one beyond where they are none. No `parse`: that takes a sign.
 fn descriptor(word: &[u8]) -> u32
     ensures { result ≤ 99999 }
 {
     let mut n: u32 = 0;
-    let mut i: usize = 0;
-    while i < word.len() {
-        let b = word[i];
-        i += 1;
-        if b < b'0' {
+    for b in word {
+        if !b.is_ascii_digit() || n > MOST {
             return MOST;
         }
-        if b > b'9' {
-            return MOST;
-        }
-        if n > MOST {
-            return MOST;
-        }
-        n = n * 10 + (b - b'0') as u32;
+        n = n * 10 + u32::from(b - b'0');
     }
     n
-}
-
-fn written(ended: Ended, launcher: i32) {
-    match ended {
-        Ended::Accepted => {
-            io::write_all(launcher, b"0\n");
-        }
-        Ended::Refused => {
-            io::write_all(launcher, b"1\n");
-        }
-        Ended::Undone => {
-            io::write_all(launcher, b"2\n");
-        }
-    }
 }
 
 // The word names the descriptor. Without a launcher nobody listens, and nothing is lost.
 pub fn tell(words: &impl Env, word: usize, ended: Ended) {
     let mut digits = io::buffer();
-    let length = args::word(words, word, &mut digits);
-    if length == 0 {
-        return;
+    let word = args::word(words, word, &mut digits);
+    if !word.is_empty() {
+        io::write_all(descriptor(word) as i32, ended.line());
     }
-    written(ended, descriptor(&digits[..length]) as i32);
 }

@@ -3,6 +3,7 @@
 
 pub mod args;
 pub mod ending;
+mod filling;
 pub mod saying;
 pub mod standard;
 pub mod taking;

@@ -1,6 +1,4 @@
 // What went wrong, on standard error: behind the counter's name, the file as typed, and what is wrong with it.
-ghost use Rattle.std.specs.Prelude.{◌≤◌, length};
-
 use std::io::{Cursor, Error, Write};
 
 // Standard error.
@@ -9,28 +7,15 @@ const STDERR: i32 = 2;
 // Room for what an error says, which has 80 bytes at most where it is no error of the system's.
 const SAID: usize = 256;
 
-// An error of the system's says its number too, in brackets behind a blank: where that begins.
-fn before_number(said: &[u8]) -> usize
-    ensures { result ≤ length said.now }
-{
-    let mut i: usize = said.len();
-    while i > 0 {
-        i -= 1;
-        if said[i] == b'(' {
-            return if i > 0 { i - 1 } else { 0 };
-        }
+// What the error says before the system's number of it, which stands in brackets behind a blank.
+fn words<'a>(error: &Error, said: &'a [u8]) -> &'a [u8] {
+    if error.raw_os_error().is_none() {
+        return said;
     }
-    said.len()
-}
-
-// How much of what the error says comes before the system's number of it.
-fn words_end(error: &Error, said: &[u8]) -> usize
-    ensures { result ≤ length said.now }
-{
-    if error.raw_os_error().is_some() {
-        return before_number(said);
+    match said.iter().rposition(|b| *b == b'(') {
+        Some(bracket) => &said[..bracket.saturating_sub(1)],
+        None => said,
     }
-    said.len()
 }
 
 // A line: what failed, and what the error says.
@@ -39,10 +24,9 @@ pub fn fail(what: &[u8], error: &Error) {
     let _ = write!(text, "{error}");
     let said = text.position().min(SAID as u64) as usize;
     let text = text.into_inner();
-    let n = words_end(error, &text[..said]);
     io::write_all(STDERR, what);
     io::write_all(STDERR, b": ");
-    io::write_all(STDERR, &text[..n]);
+    io::write_all(STDERR, words(error, &text[..said]));
     io::write_all(STDERR, b"\n");
 }
 

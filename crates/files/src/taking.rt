@@ -3,29 +3,17 @@ ghost use Rattle.std.specs.Prelude.{◌≡◌, ◌+◌, ◌-◌, ◌≤◌, ◌<
 ghost use Rattle.std.specs.Fd.{file_raw_fd};
 ghost use Rattle.std.specs.Int.Signed.{non_neg};
 ghost use Rattle.std.specs.Io.{ReadsAtMost};
-ghost use Rattle.io.specs.Counts.{IsPrefixLen};
-ghost use Rattle.files.specs.Counted.{Counted};
-ghost use Rattle.files.specs.Sources.{handed_by, has_ended, watch_of, most_handed, name_of, name_in, JustOpened, AsOpened, GoneOn, AsFilled, AsFile, Copied};
+ghost use Rattle.files.specs.Sources.{handed_by, has_ended, watch_of, most_handed, name_of, name_in, AsOpened, GoneOn, AsFilled, AsFile, Copied};
 
-use crate::saying;
+use crate::{filling, saying};
 use std::env::FillError;
 use std::fs::File;
-use std::io::{Error, ErrorKind, Read, Result, Seek, SeekFrom};
+use std::io::{Error, ErrorKind, Read, Seek, SeekFrom};
 use std::os::fd::AsRawFd;
 use std::os::unix::fs::FileExt;
 use std::rt::{Env, Files};
 use std::str;
 use watch::Watch;
-
-// How often a reading that a signal came before is begun again, so that it ends.
-pub(crate) const TRIES: usize = 1000000;
-
-// How much was read; or reading failed.
-#[derive(Clone, Copy)]
-pub enum Taken {
-    Bytes(usize),
-    Failed(Error),
-}
 
 // A file that is being read. Only this room can make or change one, so that it tells what the system handed over, and which byte at a place that nobody
 // else knows.
@@ -51,39 +39,24 @@ pub struct Failure {
     name: Watch,
 }
 
-// A source; or the file could not be opened.
-#[derive(Drop)]
-pub enum Readable {
-    At(Source),
-    Failed(Failure),
-}
-
-// The source after a filling, and how many bytes it handed over; or reading failed, and the source is closed.
-#[derive(Drop)]
-pub enum Filled {
-    Bytes(Source, usize),
-    Failed(Failure),
-}
-
 // The system is asked by text: a name that is none cannot be.
-pub fn text(path: &[u8]) -> Result<&str>
+pub fn text(path: &[u8]) -> std::io::Result<&str>
     ensures { IfOk result (λ text. text.now ≡ path.now) }
 {
-    match str::from_utf8(path) {
-        Ok(text) => Ok(text),
-        Err(_) => Err(Error::new(
+    str::from_utf8(path).map_err(|_| {
+        Error::new(
             ErrorKind::InvalidFilename,
             "its name is not UTF-8, and it cannot be opened",
-        )),
-    }
+        )
+    })
 }
 
-fn opened(files: &impl Files<File = File>, path: &[u8]) -> Result<File> {
+fn opened(files: &impl Files<File = File>, path: &[u8]) -> std::io::Result<File> {
     File::open(files, text(path)?)
 }
 
 // The file of that name, open for reading. That its descriptor is one is asked, since no contract says it.
-fn open_read(files: &impl Files<File = File>, path: &[u8]) -> Result<File>
+fn open_read(files: &impl Files<File = File>, path: &[u8]) -> std::io::Result<File>
     ensures { IfOk result (λ file. T (non_neg (file_raw_fd file))) }
 {
     let file = opened(files, path)?;
@@ -95,16 +68,12 @@ fn open_read(files: &impl Files<File = File>, path: &[u8]) -> Result<File>
 
 // A pipe has no places to read at.
 fn has_places(file: &File) -> bool {
-    let mut none = [0; 1];
-    match file.read_at(&mut none[..0], 0) {
-        Ok(_) => true,
-        Err(error) => error.kind() != ErrorKind::NotSeekable,
-    }
+    !matches!(file.read_at(&mut [], 0), Err(error) if error.kind() == ErrorKind::NotSeekable)
 }
 
 // What tells how far a source without places has come: the system keeps it, so that no copy of the source takes it back. An error where there is none, and
 // that was said.
-fn meter(files: &impl Files<File = File>, file: &File, path: &[u8]) -> Result<Option<File>>
+fn meter(files: &impl Files<File = File>, file: &File, path: &[u8]) -> std::io::Result<Option<File>>
     ensures { IfOk result (λ meter. IfSome meter (λ file. T (non_neg (file_raw_fd file)))) }
 {
     if has_places(file) {
@@ -112,124 +81,64 @@ fn meter(files: &impl Files<File = File>, file: &File, path: &[u8]) -> Result<Op
     }
     // every program has this one, and it takes any place; it is never read
     let kept = b"/proc/self/mem";
-    match open_read(files, kept) {
-        Ok(meter) => Ok(Some(meter)),
-        Err(error) => {
-            saying::failed_for(path, kept, &error);
-            Err(error)
-        }
-    }
+    let meter = open_read(files, kept).inspect_err(|error| saying::failed_for(path, kept, error))?;
+    Ok(Some(meter))
 }
 
-// The next bytes of a pipe that stands at the place asked for, and a failure where it stands elsewhere.
-fn read_standing(
-    file: &File,
-    stands: u64,
+// Where a source stands: its file, what tells how far it has come, and the place of its next byte.
+#[derive(Clone, Copy, Drop)]
+struct Stand<'a> {
+    file: &'a File,
+    meter: &'a File,
     place: u64,
-    without_places: Error,
-    buf: &mut [u8],
-) -> Result<usize>
-    requires { place < most_handed }
-    ensures standing { IfOk result (λ n. stands ≡ place) }
-    ensures counted { ReadsAtMost result buf.new }
-{
-    if stands != place {
-        return Err(without_places);
+}
+
+impl Stand<'_> {
+    // The next bytes of a pipe that stands at the place asked for, and a failure where it stands elsewhere.
+    fn read_standing(
+        &self,
+        stands: u64,
+        without_places: Error,
+        buf: &mut [u8],
+    ) -> std::io::Result<usize>
+        ensures standing { IfOk result (λ n. stands ≡ self.now.place) }
+        ensures counted { ReadsAtMost result buf.new }
+    {
+        if stands != self.place {
+            return Err(without_places);
+        }
+        let mut pipe = self.file;
+        pipe.read(buf)
     }
-    let mut pipe = file;
-    pipe.read(buf)
-}
 
-// A pipe hands over each byte once: to the source that counts all before it, and to no older copy of that source.
-fn read_next(
-    file: &File,
-    meter: &File,
-    place: u64,
-    without_places: Error,
-    buf: &mut [u8],
-) -> Result<usize>
-    requires { place < most_handed }
-    ensures { ReadsAtMost result buf.new }
-{
-    let mut meter = meter;
-    let stands = meter.seek(SeekFrom::Current(0))?;
-    let got = read_standing(file, stands, place, without_places, buf)?;
-    let _ = meter.seek(SeekFrom::Current(got as i64));
-    Ok(got)
-}
+    // A pipe hands over each byte once: to the source that counts all before it, and to no older copy of that source.
+    fn read_next(&self, without_places: Error, buf: &mut [u8]) -> std::io::Result<usize>
+        ensures { ReadsAtMost result buf.new }
+    {
+        let mut meter = self.meter;
+        let stands = meter.seek(SeekFrom::Current(0))?;
+        let got = self.read_standing(stands, without_places, buf)?;
+        let _ = meter.seek(SeekFrom::Current(got as i64));
+        Ok(got)
+    }
 
-// The bytes that stand at a place of the file, so that an older copy of a source is handed the same bytes again.
-fn read_at(file: &File, meter: &File, place: u64, buf: &mut [u8]) -> Result<usize>
-    requires { place < most_handed }
-    ensures { ReadsAtMost result buf.new }
-{
-    match file.read_at(buf, place) {
-        Ok(got) => Ok(got),
-        Err(error) => {
-            if error.kind() == ErrorKind::NotSeekable {
-                return read_next(file, meter, place, error, buf);
-            }
-            Err(error)
+    // The bytes that stand at the place of the file, so that an older copy of a source is handed the same bytes again.
+    fn read_at(&self, buf: &mut [u8]) -> std::io::Result<usize>
+        ensures { ReadsAtMost result buf.new }
+    {
+        match self.file.read_at(buf, self.place) {
+            Err(error) if error.kind() == ErrorKind::NotSeekable => self.read_next(error, buf),
+            got => got,
         }
     }
 }
 
-// A signal came before the first byte.
-pub(crate) fn interrupted(got: &Result<usize>) -> bool {
-    match got {
-        Ok(_) => false,
-        Err(error) => error.kind() == ErrorKind::Interrupted,
+impl Read for Stand<'_> {
+    fn read(&mut self, buf: &mut [u8]) -> std::io::Result<usize> {
+        let got = self.read_at(buf)?;
+        self.place = self.place.saturating_add(got as u64);
+        Ok(got)
     }
-}
-
-// The same, begun again where a signal came before its first byte.
-fn read_again(file: &File, meter: &File, place: u64, buf: &mut [u8]) -> Result<usize>
-    requires { place < most_handed }
-    ensures { ReadsAtMost result buf.new }
-{
-    let mut got = read_at(file, meter, place, buf);
-    let mut tries: usize = 0;
-    while tries < TRIES {
-        tries += 1;
-        if !interrupted(&got) {
-            break;
-        }
-        got = read_at(file, meter, place, buf);
-    }
-    got
-}
-
-// What one reading at a place brings; nothing at the end.
-fn read_once(file: &File, meter: &File, place: u64, path: &[u8], buf: &mut [u8]) -> Taken
-    requires { place < most_handed }
-    ensures { Counted result (length buf.new) }
-{
-    match read_again(file, meter, place, buf) {
-        Ok(got) => Taken::Bytes(got),
-        Err(error) => {
-            saying::failed(path, &error);
-            Taken::Failed(error)
-        }
-    }
-}
-
-// Reads on from a place until the buffer is full or the file ends.
-fn read_into(file: &File, meter: &File, from: u64, path: &[u8], buf: &mut [u8]) -> Taken
-    requires { from + length buf.old ≤ most_handed }
-    ensures { Counted result (length buf.new) }
-{
-    let mut done: usize = 0;
-    while done < buf.len() {
-        let taken = read_once(file, meter, from + done as u64, path, &mut buf[done..]);
-        let Taken::Bytes(more) = taken else {
-            return taken;
-        };
-        if more == 0 {
-            break;
-        }
-        done += more;
-    }
-    Taken::Bytes(done)
 }
 
 impl Source {
@@ -239,63 +148,51 @@ impl Source {
     const WATCHED: u64 = 0;
 
     // The file of that name, open for reading.
-    pub fn open(files: &impl Files<File = File>, path: &[u8]) -> Readable
+    pub fn open(files: &impl Files<File = File>, path: &[u8]) -> Result<Source, Failure>
         ensures { AsOpened path.now result }
     {
         let name = Watch::at(Source::WATCHED).on(path);
-        let file = match open_read(files, path) {
-            Ok(file) => file,
-            Err(error) => {
-                saying::failed(path, &error);
-                return Readable::Failed(Failure { name });
-            }
-        };
-        match meter(files, &file, path) {
-            Ok(meter) => Readable::At(Source {
-                file,
-                meter,
-                name,
-                total: 0,
-                watch: Watch::at(Source::WATCHED),
-                ended: false,
-            }),
-            Err(_) => Readable::Failed(Failure { name }),
-        }
+        let file = open_read(files, path)
+            .inspect_err(|error| saying::failed(path, error))
+            .map_err(|_| Failure { name })?;
+        let meter = meter(files, &file, path).map_err(|_| Failure { name })?;
+        Ok(Source {
+            file,
+            meter,
+            name,
+            total: 0,
+            watch: Watch::at(Source::WATCHED),
+            ended: false,
+        })
     }
 
     // A copy to go back to, which has handed over what this one has and goes on from there: a file hands it the same bytes again, and a pipe none that this
     // one was handed meanwhile.
-    pub fn copied(&self) -> Result<Source>
+    pub fn copied(&self) -> std::io::Result<Source>
         ensures { IfOk result (λ copy. Copied self.now copy) }
     {
         let file = self.file.try_clone()?;
-        let meter = match &self.meter {
-            Some(meter) => Some(meter.try_clone()?),
-            None => None,
-        };
+        let meter = self.meter.as_ref().map(File::try_clone).transpose()?;
         Ok(Source {
             file,
             meter,
-            name: self.name,
-            total: self.total,
-            watch: self.watch,
-            ended: self.ended,
+            ..*self
         })
     }
 
-    // What tells how far it has come.
-    fn measured(&self) -> &File {
-        self.meter.as_ref().unwrap_or(&self.file)
+    fn stand(&self) -> Stand<'_> {
+        Stand {
+            file: &self.file,
+            meter: self.meter.as_ref().unwrap_or(&self.file),
+            place: self.total,
+        }
     }
 
     // How much more it may hand over.
     fn left(&self) -> u64
         ensures { result ≡ most_handed - handed_by self.now }
     {
-        if self.total >= Source::MOST {
-            return 0;
-        }
-        Source::MOST - self.total
+        Source::MOST.saturating_sub(self.total)
     }
 
     // Reading failed, and it is closed.
@@ -312,22 +209,18 @@ impl Source {
         requires { handed_by self + length bytes.now < most_handed }
         ensures { GoneOn self bytes.now ended result }
     {
-        let name = self.name;
-        let before = self.watch;
-        let watch = before.on(bytes);
         let total = self.total + bytes.len() as u64;
+        let watch = self.watch.on(bytes);
         Source {
-            file: self.file,
-            meter: self.meter,
-            name,
             total,
             watch,
             ended,
+            ..self
         }
     }
 
-    // The next bytes, as many as the buffer takes. The path is for what is said.
-    pub fn fill(self, path: &[u8], buf: &mut [u8]) -> Filled
+    // The next bytes, as many as the buffer takes: the source after them, and how many they are. The path is for what is said.
+    pub fn fill(self, path: &[u8], buf: &mut [u8]) -> Result<(Source, usize), Failure>
         ensures { AsFilled self buf.new result }
     {
         if buf.len() as u64 >= self.left() {
@@ -335,14 +228,18 @@ impl Source {
                 path,
                 b"some 1 GiB were read, and it is taken to have no end",
             );
-            return Filled::Failed(self.failed());
+            return Err(self.failed());
         }
-        let taken = read_into(&self.file, self.measured(), self.total, path, buf);
-        let Taken::Bytes(n) = taken else {
-            return Filled::Failed(self.failed());
-        };
-        let ended = n < buf.len();
-        Filled::Bytes(self.after(&buf[..n], ended), n)
+        match filling::fill(&mut self.stand(), buf) {
+            Ok(n) => {
+                let ended = n < buf.len();
+                Ok((self.after(&buf[..n], ended), n))
+            }
+            Err(error) => {
+                saying::failed(path, &error);
+                Err(self.failed())
+            }
+        }
     }
 
     // What watches the bytes that it hands over.
@@ -366,63 +263,49 @@ impl Source {
     }
 }
 
-// The name that a word of the call gives: its length, or 0 where there is none, and that was said.
-pub fn name(words: &impl Env, word: usize, path: &mut [u8]) -> usize
-    ensures { IsPrefixLen result path.new }
+// A word of the call gave no name, and that was said.
+fn nameless(said: &[u8], what: &[u8]) -> Failure {
+    saying::wrong(said, what);
+    Failure {
+        name: Watch::at(Source::WATCHED),
+    }
+}
+
+// The name that a word of the call gives, put into the buffer.
+pub fn name<'a>(words: &impl Env, word: usize, path: &'a mut [u8]) -> Result<&'a [u8], Failure>
+    ensures { IfOk result (λ name. length name.now ≤ length path.old) }
 {
     match words.arg(word, path) {
         Ok(0) | Err(FillError::NotPresent) => {
-            say_nameless(path, false);
-            0
+            Err(nameless(b"''", b"the name of a file is empty"))
         }
-        Ok(length) => length,
-        Err(FillError::TooLong) => {
-            say_nameless(path, true);
-            0
-        }
-    }
-}
-
-// Of a name that is too long, the buffer holds its beginning.
-fn say_nameless(path: &[u8], too_long: bool) {
-    if too_long {
-        saying::wrong(
+        Ok(length) => Ok(&path[..length]),
+        Err(FillError::TooLong) => Err(nameless(
             path,
             b"the name of a file, of which this is the beginning, is too long",
-        );
-        return;
+        )),
     }
-    saying::wrong(b"''", b"the name of a file is empty");
 }
 
-// As much as the buffer takes. The source is closed where the answer is let go.
-fn at_once(source: Source, path: &[u8], buf: &mut [u8]) -> Filled
-    requires { JustOpened path.now source }
+// The file of that name, as much of it as the buffer takes. The source is closed where the answer is let go.
+pub fn file_named(
+    files: &impl Files<File = File>,
+    path: &[u8],
+    buf: &mut [u8],
+) -> Result<(Source, usize), Failure>
     ensures { AsFile buf.new result }
 {
-    source.fill(path, buf)
-}
-
-// The file of that name, as much of it as the buffer takes.
-pub fn file_named(files: &impl Files<File = File>, path: &[u8], buf: &mut [u8]) -> Filled
-    ensures { AsFile buf.new result }
-{
-    match Source::open(files, path) {
-        Readable::At(source) => at_once(source, path, buf),
-        Readable::Failed(failure) => Filled::Failed(failure),
-    }
+    Source::open(files, path)?.fill(path, buf)
 }
 
 // The file that a word of the call names, as much of it as the buffer takes.
-pub fn file(rt: &(impl Env + Files<File = File>), word: usize, buf: &mut [u8]) -> Filled
+pub fn file(
+    rt: &(impl Env + Files<File = File>),
+    word: usize,
+    buf: &mut [u8],
+) -> Result<(Source, usize), Failure>
     ensures { AsFile buf.new result }
 {
     let mut path = io::buffer();
-    let length = name(rt, word, &mut path);
-    if length == 0 {
-        return Filled::Failed(Failure {
-            name: Watch::at(Source::WATCHED),
-        });
-    }
-    file_named(rt, &path[..length], buf)
+    file_named(rt, name(rt, word, &mut path)?, buf)
 }

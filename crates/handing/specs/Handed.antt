@@ -1,9 +1,7 @@
 -- What stands under a name.
-use Rattle.std.specs.Prelude.{ℕ, List, ◌≡◌, length}
-use Rattle.handing.specs.declared.Handed.{Handed}
-use Rattle.handing.specs.declared.Handed.TheVariants.{Whole, Failed}
+use Rattle.std.specs.Prelude.{ℕ, List, ◌≡◌, length, Result, IfOk}
+use Rattle.handing.specs.declared.Unwritten.{Unwritten}
 
 -- all of the bytes
-abbrev pub AllOf : List ℕ → Handed → Type 0
-AllOf bytes (Whole n) = n ≡ length bytes
-AllOf bytes Failed = Unit {0}
+abbrev pub AllOf : List ℕ → Result ℕ Unwritten → Type 0
+AllOf bytes handed = IfOk handed (λ n. n ≡ length bytes)

@@ -6,12 +6,11 @@ ghost use Rattle.handing.specs.Handed.{AllOf};
 
 use files::saying;
 use files::taking::text;
-use modes::Mode;
-use std::fs;
 use std::fs::{File, OpenOptions, Permissions};
-use std::io::{ErrorKind, Result, Write};
+use std::io::{Error, ErrorKind, Write};
 use std::os::unix::fs::PermissionsExt;
 use std::rt::Files;
+use std::{fs, io};
 
 pub mod modes;
 
@@ -21,27 +20,27 @@ const PATH_MAX: usize = 4096;
 // A path, and the name of a part in its folder.
 const PART: usize = 2 * PATH_MAX;
 
-// So many bytes stand under the name; or they do not, and that was said.
-#[derive(Clone, Copy)]
-pub enum Handed {
-    Whole(usize),
-    Failed,
+// The bytes do not stand under the name, and that was said.
+#[derive(Clone, Copy, Debug, PartialEq, Eq)]
+pub struct Unwritten;
+
+// A call of the system failed on the path.
+fn failed(path: &[u8], error: &Error) -> Unwritten {
+    saying::failed(path, error);
+    Unwritten
 }
 
-fn leads_on(files: &impl Files<File = File>, path: &[u8]) -> Result<bool> {
+// Nothing can take the place of what the path names.
+fn not_plain(path: &[u8]) -> Unwritten {
+    saying::wrong(path, b"not a plain file");
+    Unwritten
+}
+
+fn leads_on(files: &impl Files<File = File>, path: &[u8]) -> io::Result<bool> {
     Ok(fs::symlink_metadata(files, text(path)?)?.is_symlink())
 }
 
-fn is_link(files: &impl Files<File = File>, path: &[u8]) -> bool
-    requires { length path.now ≤ 4096 }
-{
-    match leads_on(files, path) {
-        Ok(leads) => leads,
-        Err(_) => false,
-    }
-}
-
-fn opened(files: &impl Files<File = File>, path: &[u8]) -> Result<File> {
+fn opened(files: &impl Files<File = File>, path: &[u8]) -> io::Result<File> {
     OpenOptions::new()
         .read(true)
         .write(true)
@@ -49,171 +48,122 @@ fn opened(files: &impl Files<File = File>, path: &[u8]) -> Result<File> {
 }
 
 // Whether a new file can take its place: there is none, or a plain one.
-fn is_plain(files: &impl Files<File = File>, path: &[u8]) -> bool {
+fn plain(files: &impl Files<File = File>, path: &[u8]) -> Result<(), Unwritten> {
     match opened(files, path) {
-        Ok(file) => {
-            // nothing of a device or a pipe can be kept on a disk; asking that changes nothing of the file
-            let plain = file.sync_all().is_ok();
-            if !plain {
-                saying::wrong(path, b"not a plain file");
-            }
-            plain
-        }
-        Err(error) => {
-            if error.kind() == ErrorKind::NotFound {
-                return true;
-            }
-            saying::failed(path, &error);
-            false
-        }
+        // nothing of a device or a pipe can be kept on a disk; asking that changes nothing of the file
+        Ok(file) => file.sync_all().map_err(|_| not_plain(path)),
+        Err(error) if error.kind() == ErrorKind::NotFound => Ok(()),
+        Err(error) => Err(failed(path, &error)),
     }
 }
 
 // Whether a new file can take the place of what the path names. A link would stay, and what it leads to would not.
-fn replaceable(files: &impl Files<File = File>, path: &[u8]) -> bool
-    requires { length path.now ≤ 4096 }
-{
-    if is_link(files, path) {
-        saying::wrong(path, b"not a plain file");
-        return false;
+fn replaceable(files: &impl Files<File = File>, path: &[u8]) -> Result<(), Unwritten> {
+    if leads_on(files, path).unwrap_or(false) {
+        return Err(not_plain(path));
     }
-    is_plain(files, path)
+    plain(files, path)
 }
 
-fn has_mode(file: &File, mode: Mode) -> Result<()> {
-    match mode {
-        Mode::Old(bits) => file.set_permissions(Permissions::from_mode(bits)),
-        Mode::New => Ok(()),
-    }
-}
-
-// Nobody has a file of that name, or this fails.
-fn created(files: &impl Files<File = File>, part: &[u8]) -> Result<File> {
-    OpenOptions::new()
-        .write(true)
-        .create_new(true)
-        .open(files, text(part)?)
-}
-
-fn written(file: &File, mode: Mode, bytes: &[u8]) -> Result<()> {
-    let mut to = file;
-    to.write_all(bytes)?;
-    has_mode(file, mode)?;
-    file.sync_all()
-}
-
-fn unlink(files: &impl Files<File = File>, part: &[u8]) -> Result<()> {
+fn unlink(files: &impl Files<File = File>, part: &[u8]) -> io::Result<()> {
     fs::remove_file(files, text(part)?)
 }
 
-// The bytes, in a new file beside the path.
-fn write_part(
-    files: &impl Files<File = File>,
-    part: &[u8],
-    path: &[u8],
-    mode: Mode,
-    bytes: &[u8],
-) -> bool {
-    let file = match created(files, part) {
-        Ok(file) => file,
-        Err(error) => {
-            saying::failed(path, &error);
-            return false;
-        }
-    };
-    match written(&file, mode, bytes) {
-        Ok(()) => true,
-        Err(error) => {
-            saying::failed(path, &error);
-            let _ = unlink(files, part);
-            false
-        }
-    }
-}
-
-fn renamed(files: &impl Files<File = File>, part: &[u8], path: &[u8]) -> Result<()> {
-    fs::rename(files, text(part)?, text(path)?)
-}
-
-fn replace(
-    files: &impl Files<File = File>,
-    part: &[u8],
-    path: &[u8],
-    mode: Mode,
-    bytes: &[u8],
-) -> bool {
-    if !write_part(files, part, path, mode, bytes) {
-        return false;
-    }
-    match renamed(files, part, path) {
-        Ok(()) => true,
-        Err(error) => {
-            saying::failed(path, &error);
-            let _ = unlink(files, part);
-            false
-        }
-    }
-}
-
-// Where the last part of a path begins: its folder stands before.
-fn folder_end(path: &[u8]) -> usize
-    ensures { result ≤ length path.now }
+// The folder of a path, up to its last slash.
+fn folder(path: &[u8]) -> &[u8]
+    ensures { length result.now ≤ length path.now }
 {
-    let mut end: usize = 0;
-    let mut i: usize = 0;
-    while i < path.len() {
-        let b = path[i];
-        i += 1;
-        if b == b'/' {
-            end = i;
-        }
+    match path.iter().rposition(|b| *b == b'/') {
+        Some(slash) => &path[..slash + 1],
+        None => &path[..0],
     }
-    end
 }
 
 // A name in the folder of the path. The launcher chose it, and finds the file by it where a signal ends the program.
-fn name_part(part: &mut [u8], path: &[u8], name: &[u8]) -> usize
+fn name_part<'a>(part: &'a mut [u8], path: &[u8], name: &[u8]) -> &'a [u8]
     requires { length path.now + length name.now ≤ length part.old }
-    ensures { result ≤ length part.new }
 {
-    let folder = folder_end(path);
-    let past_folder = writing::text(part, 0, &path[..folder]);
-    writing::text(part, past_folder, name)
+    let past_folder = writing::text(part, 0, folder(path));
+    let end = writing::text(part, past_folder, name);
+    &part[..end]
 }
 
-// A new file beside the path, with these bytes; then it takes the place of what the path names.
-fn write_beside(
-    files: &impl Files<File = File>,
-    path: &[u8],
-    name: &[u8],
-    mode: Mode,
-    bytes: &[u8],
-) -> bool
-    requires path_len_bound { length path.now ≤ 4096 }
-    requires name_len_bound { length name.now ≤ 4096 }
-{
-    let mut part = [0u8; PART];
-    let end = name_part(&mut part, path, name);
-    replace(files, &part[..end], path, mode, bytes)
+// What is to stand under a path: these bytes, in a file of that mode, or of a new file's. They stand in the part first.
+#[derive(Drop)]
+struct Out<'a> {
+    path: &'a [u8],
+    part: &'a [u8],
+    mode: Option<u32>,
+    bytes: &'a [u8],
 }
 
-// The bytes under that path. While they are written they stand beside it, under the other name.
+impl Out<'_> {
+    // Nobody has a file of that name, or this fails.
+    fn created(&self, files: &impl Files<File = File>) -> io::Result<File> {
+        OpenOptions::new()
+            .write(true)
+            .create_new(true)
+            .open(files, text(self.part)?)
+    }
+
+    fn written(&self, file: &File) -> io::Result<()> {
+        let mut to = file;
+        to.write_all(self.bytes)?;
+        if let Some(bits) = self.mode {
+            file.set_permissions(Permissions::from_mode(bits))?;
+        }
+        file.sync_all()
+    }
+
+    fn renamed(&self, files: &impl Files<File = File>) -> io::Result<()> {
+        fs::rename(files, text(self.part)?, text(self.path)?)
+    }
+
+    // The part is given up.
+    fn dropped(&self, files: &impl Files<File = File>, error: &Error) -> Unwritten {
+        let unwritten = failed(self.path, error);
+        let _ = unlink(files, self.part);
+        unwritten
+    }
+
+    // A new file beside the path, with these bytes.
+    fn write_part(&self, files: &impl Files<File = File>) -> Result<(), Unwritten> {
+        let file = self
+            .created(files)
+            .map_err(|error| failed(self.path, &error))?;
+        self.written(&file)
+            .map_err(|error| self.dropped(files, &error))
+    }
+
+    // Then it takes the place of what the path names.
+    fn replace(&self, files: &impl Files<File = File>) -> Result<(), Unwritten> {
+        self.write_part(files)?;
+        self.renamed(files)
+            .map_err(|error| self.dropped(files, &error))
+    }
+}
+
+// The bytes under that path, and how many they are. While they are written they stand beside it, under the other name.
 pub fn put(
     files: &impl Files<File = File>,
     path: &[u8],
     name: &[u8],
-    mode: Mode,
+    mode: Option<u32>,
     bytes: &[u8],
-) -> Handed
+) -> Result<usize, Unwritten>
     requires path_len_bound { length path.now ≤ 4096 }
     requires name_len_bound { length name.now ≤ 4096 }
     ensures { AllOf bytes.now result }
 {
-    if !replaceable(files, path) {
-        return Handed::Failed;
-    }
-    if !write_beside(files, path, name, mode, bytes) {
-        return Handed::Failed;
-    }
-    Handed::Whole(bytes.len())
+    replaceable(files, path)?;
+    let mut part = [0u8; PART];
+    let part = name_part(&mut part, path, name);
+    let out = Out {
+        path,
+        part,
+        mode,
+        bytes,
+    };
+    out.replace(files)?;
+    Ok(bytes.len())
 }

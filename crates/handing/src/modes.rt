@@ -1,54 +1,29 @@
 // The modes of files, as the launcher hands them over: three octal digits for each file, or three other characters where none stands there.
 ghost use Rattle.std.specs.Prelude.{◌≡◌};
-ghost use Rattle.handing.specs.Modes.{octal, spelled_mode, mode_of};
-
-// That of the file in whose place it is put; or that of any new file.
-#[derive(Clone, Copy)]
-pub enum Mode {
-    Old(u32),
-    New,
-}
+ghost use Rattle.handing.specs.Modes.{octal, mode_of};
 
 // Digits of a mode.
 const DIGITS: usize = 3;
 
-// What is no digit of a mode.
-const NONE: u32 = 8;
-
-fn digit(b: u8) -> u32
+fn digit(b: u8) -> Option<u32>
     ensures { result ≡ octal b }
 {
-    if b < b'0' {
-        return NONE;
+    match b {
+        b'0'..=b'7' => Some(u32::from(b - b'0')),
+        _ => None,
     }
-    if b'7' < b {
-        return NONE;
-    }
-    (b - b'0') as u32
 }
 
-fn spelled(a: u32, b: u32, c: u32) -> Mode
-    ensures { result ≡ spelled_mode a b c }
-{
-    if a >= NONE {
-        return Mode::New;
-    }
-    if b >= NONE {
-        return Mode::New;
-    }
-    if c >= NONE {
-        return Mode::New;
-    }
-    Mode::Old(a * 64 + b * 8 + c)
-}
-
-// The mode of file i.
-pub fn of(modes: &[u8], i: usize) -> Mode
+// The mode of file i, in whose place another is put; none where a new file keeps its own.
+pub fn of(modes: &[u8], i: usize) -> Option<u32>
     ensures { result ≡ mode_of modes.now i }
 {
     if i >= modes.len() / DIGITS {
-        return Mode::New;
+        return None;
     }
     let at = i * DIGITS;
-    spelled(digit(modes[at]), digit(modes[at + 1]), digit(modes[at + 2]))
+    let owner = digit(modes[at])?;
+    let group = digit(modes[at + 1])?;
+    let others = digit(modes[at + 2])?;
+    Some(owner * 64 + group * 8 + others)
 }

@@ -7,11 +7,12 @@ ghost use Rattle.verdicts.specs.Verdicts.{check_of, under};
 use characters::{number, text};
 use field::date;
 use paper::answer::Fault;
-use paper::rules::{Reader, Rules, Terms};
+use paper::rules::{Reader, Terms};
 use verdicts::member;
-use verdicts::verdict::Verdict;
+use verdicts::verdict::need;
 
 // Digits; at a desk the next of 1, 2, ..
+#[tactic(auto, using(verdicts::proofs::Chain::chain), unfolding(paper::specs::Records::number_good))]
 fn number_good(reader: Reader, before: u64, rec: &[u8]) -> bool
     requires rec_len { length rec.now ≡ 94 }
     requires before_bound { before ≤ 10000 }
@@ -24,20 +25,18 @@ fn number_good(reader: Reader, before: u64, rec: &[u8]) -> bool
 }
 
 // After so many batches before it.
-pub fn judge(terms: Terms, roster: &[bool; Rules::ROSTER], before: u64, rec: &[u8]) -> Verdict
+#[tactic(auto, using(verdicts::proofs::Chain::chain), unfolding(paper::specs::Records::batch_header))]
+pub fn judge(terms: Terms, before: u64, rec: &[u8]) -> Result<(), Fault>
     requires before_bound { before ≤ 10000 }
     requires rec_len { length rec.now ≡ 94 }
-    ensures { check_of result ≡ batch_header (under terms roster.now) before rec.now }
+    ensures { check_of result ≡ batch_header (under terms.entry) before rec.now }
 {
-    let currency = terms.currency;
-    let reader = terms.reader;
-    Verdict::Right
-        .need(number::digits(rec, 2, 4), Fault::Format)
-        .need(!text::blank(rec, 5, 20), Fault::Format)
-        .need(number::digits(rec, 41, 50), Fault::Format)
-        .need(!text::blank(rec, 54, 63), Fault::Format)
-        .need(date::date(rec, 70, 75), Fault::Date)
-        .need(number::digits(rec, 79, 79), Fault::Format)
-        .also(member::member_field(currency, roster, rec, 80, 87))
-        .need(number_good(reader, before, rec), Fault::Format)
+    need(number::digits(rec, 2, 4), Fault::Format)?;
+    need(!text::blank(rec, 5, 20), Fault::Format)?;
+    need(number::digits(rec, 41, 50), Fault::Format)?;
+    need(!text::blank(rec, 54, 63), Fault::Format)?;
+    need(date::date(rec, 70, 75), Fault::Date)?;
+    need(number::digits(rec, 79, 79), Fault::Format)?;
+    member::member_field(terms, rec, 80, 87)?;
+    need(number_good(terms.reader, before, rec), Fault::Format)
 }

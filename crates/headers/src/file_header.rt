@@ -7,11 +7,12 @@ ghost use Rattle.verdicts.specs.Verdicts.{check_of, under};
 use characters::{number, text};
 use field::{date, entity};
 use paper::answer::Fault;
-use paper::rules::{Currency, Reader, Rules, Terms};
+use paper::rules::{Currency, Reader, Terms};
 use verdicts::member;
-use verdicts::verdict::Verdict;
+use verdicts::verdict::need;
 
 // An entity field; at a desk free eight digits.
+#[tactic(auto, using(verdicts::proofs::Chain::chain), unfolding(paper::specs::Records::origin_good))]
 fn origin_good(reader: Reader, rec: &[u8]) -> bool
     requires { length rec.now ≡ 94 }
     ensures { result ≡ origin_good reader (field rec.now 15 22) }
@@ -23,6 +24,7 @@ fn origin_good(reader: Reader, rec: &[u8]) -> bool
 }
 
 // The desk's own entity, of the session's currency, with branch 0000.
+#[tactic(auto, using(verdicts::proofs::Chain::chain), unfolding(paper::specs::Records::own_desk))]
 fn own_desk(currency: Currency, desk: u64, rec: &[u8]) -> bool
     requires { length rec.now ≡ 94 }
     ensures { result ≡ own_desk currency desk rec.now }
@@ -33,37 +35,35 @@ fn own_desk(currency: Currency, desk: u64, rec: &[u8]) -> bool
 }
 
 // The origin's currency and roster; at a desk, that the header is its own.
-fn headed(terms: Terms, roster: &[bool; Rules::ROSTER], rec: &[u8]) -> Verdict
+#[tactic(auto, using(verdicts::proofs::Chain::chain), unfolding(paper::specs::Records::headed))]
+fn headed(terms: Terms, rec: &[u8]) -> Result<(), Fault>
     requires { length rec.now ≡ 94 }
-    ensures { check_of result ≡ headed terms.reader (under terms roster.now).session rec.now }
+    ensures { check_of result ≡ headed terms.entry.reader (under terms.entry).session rec.now }
 {
-    let currency = terms.currency;
-    let reader = terms.reader;
-    match reader {
-        Reader::House => member::member(currency, roster, rec, 15, 22),
-        Reader::Desk(desk) => Verdict::Right.need(own_desk(currency, desk, rec), Fault::Format),
+    match terms.reader {
+        Reader::House => member::member(terms, rec, 15, 22),
+        Reader::Desk(desk) => need(own_desk(terms.currency, desk, rec), Fault::Format),
     }
 }
 
-pub fn judge(terms: Terms, roster: &[bool; Rules::ROSTER], rec: &[u8]) -> Verdict
+#[tactic(auto, using(verdicts::proofs::Chain::chain), unfolding(paper::specs::Records::file_header))]
+pub fn judge(terms: Terms, rec: &[u8]) -> Result<(), Fault>
     requires { length rec.now ≡ 94 }
-    ensures { check_of result ≡ file_header (under terms roster.now) rec.now }
+    ensures { check_of result ≡ file_header (under terms.entry) rec.now }
 {
-    let reader = terms.reader;
     let destination = text::reads(rec, 4, 4, b" ")
         & number::digits(rec, 5, 12)
         & text::reads(rec, 13, 13, b"0");
     let origin = text::reads(rec, 14, 14, b" ")
-        & origin_good(reader, rec)
+        & origin_good(terms.reader, rec)
         & text::reads(rec, 23, 23, b"0");
     let today = date::date(rec, 24, 29) & number::spells(rec, 24, 29, terms.date);
-    Verdict::Right
-        .need(text::reads(rec, 2, 3, b"01"), Fault::Format)
-        .need(destination, Fault::Format)
-        .need(origin, Fault::Format)
-        .need(today, Fault::Date)
-        .need(date::time(rec, 30, 33), Fault::Format)
-        .need(text::identifier(rec, 34), Fault::Format)
-        .need(text::reads(rec, 35, 40, b"094101"), Fault::Format)
-        .also(headed(terms, roster, rec))
+    need(text::reads(rec, 2, 3, b"01"), Fault::Format)?;
+    need(destination, Fault::Format)?;
+    need(origin, Fault::Format)?;
+    need(today, Fault::Date)?;
+    need(date::time(rec, 30, 33), Fault::Format)?;
+    need(text::identifier(rec, 34), Fault::Format)?;
+    need(text::reads(rec, 35, 40, b"094101"), Fault::Format)?;
+    headed(terms, rec)
 }

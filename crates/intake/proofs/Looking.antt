@@ -1,10 +1,10 @@
 -- Piece by piece to the end, of every form.
-use Prim.Native.Nat.{ℕ, ◌+◌, ◌%◌, ◌≤◌, ◌<◌}
+use Prim.Native.Nat.{ℕ, ◌+◌, ◌%◌, ◌<◌}
 use native.Mathlib.Nat.{zero-mod, add-mod}
 use native.Mathlib.Omega.{arith}
 use mathlib.Core.Bool.{true, false}
 use mathlib.Core.List.{List, [], ◌++◌}
-use mathlib.Core.Path.{◌≡◌, refl, sym, ap, subst, ◌∙◌}
+use mathlib.Core.Path.{◌≡◌, refl, sym, ap, ◌∙◌}
 use lib.ListN.{length, take, length-append}
 use lib.Seq.{length-take-le}
 use Rattle.paper.specs.declared.answer.Answer.{Answer}
@@ -22,18 +22,9 @@ use Rattle.looking.proofs.Joined.{sought_none, sought_on, sought_told, sought_en
 use Rattle.company.proofs.LongFiles.{long_company_lem}
 use Rattle.demands.proofs.LongTrays.{long_built}
 use Rattle.files.specs.declared.taking.Source.{Source}
-use Rattle.files.specs.declared.taking.Failure.{Failure}
-use Rattle.files.specs.Sources.{has_ended, watch_of, name_of, name_in, Watched, JustOpened}
+use Rattle.files.specs.Sources.{has_ended, watch_of, JustOpened}
 use Rattle.files.proofs.Parts.{handed_none, handed_on, same_name, full}
-use Rattle.intake.specs.declared.long.Piece.{Piece}
-use Rattle.intake.specs.declared.long.Piece.TheVariants.{Read}
-use Rattle.intake.specs.declared.long.Piece.TheVariants as piece
-use Rattle.intake.specs.declared.long.Reached.{Reached}
-use Rattle.intake.specs.declared.long.Reached.TheVariants.{End}
-use Rattle.intake.specs.declared.long.Reached.TheVariants as reached
-use Rattle.intake.specs.declared.long.Took.{Took}
-use Rattle.intake.specs.declared.long.Took.TheVariants.{Whole, Long, Failed}
-use Rattle.intake.specs.Looking.{PieceLooked, LookedOn, LookedAt, LongSoFar, LongToEnd, LookedThrough, WholeIn, AsDone, AnsweredLong, Takes, Told}
+use Rattle.intake.specs.Looking.{PieceLooked, LookedAt, LongSoFar, LongToEnd, WholeIn, AsDone, AnsweredLong}
 
 -- ---- by form
 
@@ -53,21 +44,11 @@ as_said (Company currency) body bytes a long e = λ before short. e ∙ sym (lon
 
 -- ---- pieces
 
--- a piece is some of the bytes in the buffer
-pub piece_looked : (seen : Look) (before : Source) (body buffer : List ℕ) {r : Piece} {after : Source} {n : ℕ} {known : Look} → r ≡ Read after n known
-    → LookedOn seen before body buffer r → PieceLooked seen before body buffer after n known
-piece_looked seen before body buffer e w = subst (LookedOn seen before body buffer) e w
-
 -- before any byte
 pub nothing_looked : (form : Form) (path body : List ℕ) (source : Source) (look : Look) {w : Watch} → JustOpened path source → w ≡ watch_of source
     → LookBegun form w look → LookedAt form path body source look []
 nothing_looked form path body source look j e b =
     record { name = j.name; seen = sought_none form body (sought_in look) b.seen; watch = b.watch ∙ ap (λ (x : Watch). watch_at (place_of x)) e ∙ sym j.watch; given = handed_none path source j; counted = j.total }
-
--- it could not be read on
-pub not_looked : (path : List ℕ) (seen : Look) (before : Source) (body buffer : List ℕ) {r : Piece} {failure : Failure} → r ≡ piece.Failed failure → LookedOn seen before body buffer r
-    → Watched (name_of before) path → Watched (name_in failure) path
-not_looked path seen before body buffer e w h = same_name path (subst (LookedOn seen before body buffer) e w) h
 
 -- whole records, and then more of them
 whole_sum : (a b w : ℕ) → a % w ≡ 0 → b % w ≡ 0 → (a + b) % w ≡ 0
@@ -75,7 +56,7 @@ whole_sum a b w h k = add-mod a b w ∙ ap (λ (x : ℕ). (x + b % w) % w) h ∙
 
 module _ {seen : Look} {before after : Source} {body buffer : List ℕ} {n : ℕ} {known : Look} (p : PieceLooked seen before body buffer after n known) where
   read_length : length (take n buffer) ≡ n
-  read_length = length-take-le n buffer p.further.fits
+  read_length = length-take-le n buffer p.further.fits.0
 
   further : {form : Form} {path : List ℕ} (bytes : List ℕ) → length bytes % width_of form ≡ 0 → LookedAt form path body before seen bytes
       → LookedAt form path body after known (bytes ++ take n buffer)
@@ -131,13 +112,6 @@ module _ {seen : Look} {before after : Source} {body buffer : List ℕ} {n : ℕ
 
 -- ---- what is told
 
-pub to_end : (form : Form) (path body : List ℕ) {r : Reached} {source : Source} {look : Look} → r ≡ End source look → LookedThrough form path body r
-    → LongToEnd form path body source look
-to_end form path body e w = subst (LookedThrough form path body) e w
-
-pub not_through : (form : Form) (path body : List ℕ) {r : Reached} {failure : Failure} → r ≡ reached.Failed failure → LookedThrough form path body r → Watched (name_in failure) path
-not_through form path body e w = subst (LookedThrough form path body) e w
-
 -- no source hands over more records than are looked at
 pub answers : (form : Form) (path body : List ℕ) (source : Source) (look : Look) (k : Known) → LongToEnd form path body source look → TellsOf (sought_in look) body k
     → AnsweredLong form path body k source look
@@ -149,11 +123,3 @@ answers form path body source look (Finite a) o t =
       as_done = as_said form body o.bytes a o.long (sought_told form body (sought_in look) o.bytes a o.looked.seen t);
     }
 answers form path body source look Endless o t = absurd (omega (arith, sought_endless form body (sought_in look) o.bytes o.looked.seen t, o.below))
-
-pub whole_fits : (form : Form) (path body buffer : List ℕ) {r : Took} {n : ℕ} {source : Source} → r ≡ Whole n source → Takes form path body buffer r → n ≤ length buffer
-whole_fits form path body buffer e t = (subst (Takes form path body buffer) e t).fits
-
-pub so_told : (form : Form) (path body buffer : List ℕ) (r : Took) → Told form path body r → Takes form path body buffer r
-so_told form path body buffer (Whole n source) t = absurd t
-so_told form path body buffer (Long known source look) t = t
-so_told form path body buffer (Failed failure) t = t

@@ -1,6 +1,7 @@
 -- What is taken piece by piece, by its form. No contract can name what the system hands over; but a source and a look are watched at the same place, and nobody
 -- knows which, so that what was looked at is what was handed over, byte by byte.
-use Rattle.std.specs.Prelude.{ℕ, ◌%◌, ◌≤◌, ◌<◌, true, List, ◌≡◌, length, take}
+use Rattle.std.specs.Prelude.{ℕ, ◌%◌, ◌≤◌, ◌<◌, true, List, ◌≡◌, length, take, Result, MatchResult}
+use Rattle.io.specs.Counts.{IsPrefixLen}
 use Rattle.paper.specs.declared.answer.Answer.{Answer}
 use Rattle.paper.specs.Answers.{said}
 use Rattle.paper.specs.Buffers.{building}
@@ -15,11 +16,8 @@ use Rattle.looking.specs.Looks.{sought_in, watched_in, SeenOf, LookOn}
 use Rattle.desk.specs.declared.Session.{Session}
 use Rattle.desk.specs.Standing.{rules_of}
 use Rattle.files.specs.declared.taking.Source.{Source}
+use Rattle.files.specs.declared.taking.Failure.{Failure}
 use Rattle.files.specs.Sources.{handed_by, has_ended, watch_of, name_of, name_in, most_handed, Watched, ReadFurther, HandedOver}
-use Rattle.intake.specs.declared.long.Piece.{Piece}
-use Rattle.intake.specs.declared.long.Piece.TheVariants as piece
-use Rattle.intake.specs.declared.long.Reached.{Reached}
-use Rattle.intake.specs.declared.long.Reached.TheVariants as reached
 use Rattle.intake.specs.declared.long.Took.{Took}
 use Rattle.intake.specs.declared.long.Took.TheVariants as took
 
@@ -30,9 +28,9 @@ pub record PieceLooked (seen : Look) (before : Source) (body buffer : List ℕ) 
   pub further : ReadFurther before n buffer after
   pub looked : LookOn seen body (take n buffer) known
 
-abbrev pub LookedOn : Look → Source → List ℕ → List ℕ → Piece → Type 0
-LookedOn seen before body buffer (piece.Read after n known) = PieceLooked seen before body buffer after n known
-LookedOn seen before body buffer (piece.Failed failure) = name_in failure ≡ name_of before
+abbrev pub LookedOn : Look → Source → List ℕ → List ℕ → Result (Source × ℕ × Look) Failure → Type 0
+LookedOn seen before body buffer piece =
+    MatchResult piece (λ p. PieceLooked seen before body buffer p.0 p.1 p.2) (λ failure. name_in failure ≡ name_of before)
 
 -- these bytes were looked at: they are what the source handed over since it was opened under this name
 pub record LookedAt (form : Form) (path body : List ℕ) (source : Source) (look : Look) (bytes : List ℕ) : Type 0 where
@@ -56,16 +54,16 @@ pub record LongToEnd (form : Form) (path body : List ℕ) (source : Source) (loo
   pub ended : has_ended source ≡ true
   pub below : length bytes < most_handed
 
-abbrev pub LookedThrough : Form → List ℕ → List ℕ → Reached → Type 0
-LookedThrough form path body (reached.End source look) = LongToEnd form path body source look
-LookedThrough form path body (reached.Failed failure) = Watched (name_in failure) path
+abbrev pub LookedThrough : Form → List ℕ → List ℕ → Result (Source × Look) Failure → Type 0
+LookedThrough form path body reached =
+    MatchResult reached (λ p. LongToEnd form path body p.0 p.1) (λ failure. Watched (name_in failure) path)
 
 -- ---- what is handed over
 
 -- all of it is so many bytes of the buffer
 pub record WholeIn (path buffer : List ℕ) (n : ℕ) (source : Source) : Type 0 where
   pub name : Watched (name_of source) path
-  pub fits : n ≤ length buffer
+  pub fits : IsPrefixLen n buffer
   pub given : HandedOver source (take n buffer)
   pub ended : has_ended source ≡ true
 
@@ -82,14 +80,11 @@ pub record AnsweredLong (form : Form) (path body : List ℕ) (known : Known) (so
   pub finite : known ≡ Finite answer
   pub as_done : AsDone form body to_end.bytes answer
 
--- of what stands under that name, or it could not be read
-abbrev pub Takes : Form → List ℕ → List ℕ → List ℕ → Took → Type 0
-Takes form path body buffer (took.Whole n source) = WholeIn path buffer n source
-Takes form path body buffer (took.Long known source look) = AnsweredLong form path body known source look
-Takes form path body buffer (took.Failed failure) = Watched (name_in failure) path
+-- all of it, or it is longer
+abbrev pub TakenUp : Form → List ℕ → List ℕ → List ℕ → Took → Type 0
+TakenUp form path body buffer (took.Whole n source) = WholeIn path buffer n source
+TakenUp form path body buffer (took.Long known source look) = AnsweredLong form path body known source look
 
--- of a long one
-abbrev pub Told : Form → List ℕ → List ℕ → Took → Type 0
-Told form path body (took.Whole n source) = ⊥
-Told form path body (took.Long known source look) = AnsweredLong form path body known source look
-Told form path body (took.Failed failure) = Watched (name_in failure) path
+-- of what stands under that name, or it could not be read
+abbrev pub Takes : Form → List ℕ → List ℕ → List ℕ → Result Took Failure → Type 0
+Takes form path body buffer took = MatchResult took (TakenUp form path body buffer) (λ failure. Watched (name_in failure) path)

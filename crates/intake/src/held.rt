@@ -19,20 +19,9 @@ impl Size {
     pub const OUTPUT: usize = Size::RECORDS * Tray::RECORD;
 }
 
-pub fn input() -> [u8; Size::INPUT]
-    ensures { (960096 ≡ length result) × (result ≡ zero_bytes 960096) }
+// A buffer before anything is in it.
+pub fn zeros<const N: usize>() -> [u8; N]
+    ensures { (N ≡ length result) × (result ≡ zero_bytes N) }
 {
-    [0; Size::INPUT]
-}
-
-pub fn long() -> [u8; Size::LONG]
-    ensures { (2508000 ≡ length result) × (result ≡ zero_bytes 2508000) }
-{
-    [0; Size::LONG]
-}
-
-pub fn output() -> [u8; Size::OUTPUT]
-    ensures { (960000 ≡ length result) × (result ≡ zero_bytes 960000) }
-{
-    [0; Size::OUTPUT]
+    [0; N]
 }

@@ -1,44 +1,35 @@
 // What a job takes up, by its form: whole in a buffer; or longer than the job can take, looked at piece by piece, with the answer that the job gives.
 ghost use Rattle.files.specs.Sources.{JustOpened};
-ghost use Rattle.intake.specs.Looking.{LookedOn, LongSoFar, LookedThrough, Told, Takes};
+ghost use Rattle.intake.specs.Looking.{LookedOn, LongSoFar, LookedThrough, Takes};
 
 use crate::held::Size;
-use files::taking::{Failure, Filled, Readable, Source};
+use files::taking::{Failure, Source};
 use looking::{Form, Look};
 use std::fs::File;
 use std::rt::Files;
 use tray::pieces::Known;
 
 // So many bytes are all of it; or it is longer, with what is told of it, always an answer, and all that was looked at. Each with its source after the last
-// piece, which is closed where this is let go. Or it could not be read.
+// piece, which is closed where this is let go.
 #[derive(Drop)]
 pub enum Took {
     Whole(usize, Source),
     Long(Known, Source, Look),
-    Failed(Failure),
 }
 
-// A piece: the source after it, how many bytes, and what is known with them; or reading failed.
-#[derive(Drop)]
-enum Piece {
-    Read(Source, usize, Look),
-    Failed(Failure),
-}
-
-// Where looking has come to: the end; or reading failed.
-#[derive(Drop)]
-enum Reached {
-    End(Source, Look),
-    Failed(Failure),
-}
-
-fn look_on(seen: Look, source: Source, path: &[u8], body: &[u8], buffer: &mut [u8]) -> Piece
+// A piece: the source after it, how many bytes, and what is known with them.
+fn look_on(
+    seen: Look,
+    source: Source,
+    path: &[u8],
+    body: &[u8],
+    buffer: &mut [u8],
+) -> Result<(Source, usize, Look), Failure>
     ensures { LookedOn seen source body.now buffer.new result }
 {
-    match source.fill(path, buffer) {
-        Filled::Bytes(after, n) => Piece::Read(after, n, seen.read(body, &buffer[..n])),
-        Filled::Failed(failure) => Piece::Failed(failure),
-    }
+    let (after, n) = source.fill(path, buffer)?;
+    let known = seen.read(body, &buffer[..n]);
+    Ok((after, n, known))
 }
 
 // To the last piece. Each full one is counted, so the loop ends by what the source may hand over. The form is there for the contract alone.
@@ -49,42 +40,19 @@ fn look_through(
     path: &[u8],
     body: &[u8],
     input: &mut [u8; Size::LONG],
-) -> Reached
+) -> Result<(Source, Look), Failure>
     requires { LongSoFar form path.now body.now source begun }
     ensures { LookedThrough form path.now body.now result }
 {
     let mut seen = begun;
     let mut before = source;
     loop {
-        match look_on(seen, before, path, body, input) {
-            Piece::Read(after, _, known) => {
-                if after.has_ended() {
-                    return Reached::End(after, known);
-                }
-                before = after;
-                seen = known;
-            }
-            Piece::Failed(failure) => {
-                return Reached::Failed(failure);
-            }
+        let (after, _, known) = look_on(seen, before, path, body, input)?;
+        if after.has_ended() {
+            return Ok((after, known));
         }
-    }
-}
-
-fn answered(
-    form: Form,
-    begun: Look,
-    source: Source,
-    path: &[u8],
-    body: &[u8],
-    input: &mut [u8; Size::LONG],
-) -> Took
-    requires { LongSoFar form path.now body.now source begun }
-    ensures { Told form path.now body.now result }
-{
-    match look_through(form, begun, source, path, body, input) {
-        Reached::End(after, seen) => Took::Long(seen.answer(body), after, seen),
-        Reached::Failed(failure) => Took::Failed(failure),
+        before = after;
+        seen = known;
     }
 }
 
@@ -94,20 +62,17 @@ fn take_from(
     path: &[u8],
     body: &[u8],
     input: &mut [u8; Size::LONG],
-) -> Took
+) -> Result<Took, Failure>
     requires { JustOpened path.now source }
     ensures { Takes form path.now body.now input.new result }
 {
     let begun = Look::begun(form, source.watch());
-    match look_on(begun, source, path, body, input) {
-        Piece::Read(after, n, known) => {
-            if after.has_ended() {
-                return Took::Whole(n, after);
-            }
-            answered(form, known, after, path, body, input)
-        }
-        Piece::Failed(failure) => Took::Failed(failure),
+    let (after, n, known) = look_on(begun, source, path, body, input)?;
+    if after.has_ended() {
+        return Ok(Took::Whole(n, after));
     }
+    let (last, seen) = look_through(form, known, after, path, body, input)?;
+    Ok(Took::Long(seen.answer(body), last, seen))
 }
 
 // What stands under that name, its first piece into the buffer; the body is what the job is handed with it.
@@ -117,11 +82,8 @@ pub fn take(
     path: &[u8],
     body: &[u8],
     input: &mut [u8; Size::LONG],
-) -> Took
+) -> Result<Took, Failure>
     ensures { Takes form path.now body.now input.new result }
 {
-    match Source::open(files, path) {
-        Readable::At(source) => take_from(form, source, path, body, input),
-        Readable::Failed(failure) => Took::Failed(failure),
-    }
+    take_from(form, Source::open(files, path)?, path, body, input)
 }

@@ -1,37 +1,22 @@
 -- Room: each side of a posting is one touch more.
-use Prim.Native.Nat.{ℕ, zero, suc, ◌+◌, ◌*◌, ◌≤◌, ◌<◌, ◌^◌}
+use Prim.Native.Nat.{ℕ, zero, suc, ◌+◌, ◌≤◌, ◌<◌, ◌^◌}
 use native.Mathlib.Omega.{arith}
 use mathlib.Core.Bool.{Bool, not}
 use mathlib.Core.List.{[], List, ◌∷◌}
 use mathlib.Core.Path.{◌≡◌}
-use lib.IntN.{ℤ, pos, negsuc, nat_abs, ◌+ℤ◌}
+use lib.IntN.{ℤ, nat_abs, ◌+ℤ◌}
 use lib.ListN.{get_or, set}
-use lib.Signed.{mag}
-use mir.Syntax.{w64}
-use mir.Val.{SFits}
 use Rattle.paper.specs.declared.ledger.Cell.{Cell}
 use Rattle.paper.specs.Postings.{signed}
 use Rattle.paper.specs.Sessions.{zero_cell}
 use Rattle.paper.specs.Demands.{Touched}
 use Rattle.paper.proofs.Bounds.{nat_abs_plus, abs_signed}
-use Rattle.ledger.specs.Sides.{side, sides_in_all}
+use Rattle.ledger.specs.Sides.{side}
 
 -- ---- positions
 
 moved_abs : (z : ℤ) (rises : Bool) (amount : ℕ) → nat_abs (z +ℤ signed rises amount) ≤ nat_abs z + amount
 moved_abs z rises amount = omega (arith, nat_abs_plus z (signed rises amount), abs_signed rises amount)
-
-mag_le : (z : ℤ) → mag z ≤ nat_abs z
-mag_le (pos n) = omega arith
-mag_le (negsuc n) = omega arith
-
--- 64 bits hold it
-pub fits : (z : ℤ) → nat_abs z ≤ 4 * 10 ^ 18 → SFits w64 z
-fits z h = record { sfits = omega (arith, mag_le z) }
-
--- and with one side more
-pub moved_fits : (z : ℤ) (rises : Bool) (amount : ℕ) → nat_abs z ≤ sides_in_all * 10 ^ 10 → amount < 10 ^ 10 → SFits w64 (z +ℤ signed rises amount)
-moved_fits z rises amount h l = fits (z +ℤ signed rises amount) (omega (arith, moved_abs z rises amount))
 
 -- ---- cells
 

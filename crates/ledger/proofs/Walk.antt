@@ -5,12 +5,9 @@ use mathlib.Core.Bool.{Bool, not}
 use mathlib.Core.List.{[], List, ◌∷◌}
 use mathlib.Core.Path.{◌≡◌, refl, ap, ◌∙◌}
 use lib.ListN.{length, get_or, drop, set, drop_of_length-le}
-use types.Run.{OneOf}
-use denote.Enum.Declared.{tag_of}
-use Rattle.paper.specs.contracts.record.Kind as kind
 use Rattle.paper.specs.declared.ledger.Cell.{Cell}
 use Rattle.paper.specs.declared.record.Kind.{Kind}
-use Rattle.paper.specs.declared.record.Kind.TheVariants.{Individual}
+use Rattle.paper.specs.declared.record.Kind.TheVariants.{FileHeader, BatchHeader, Individual, Additional, BatchControl, FileControl, Other}
 use Rattle.paper.specs.Kinds.{kind_of, code_of, collects}
 use Rattle.paper.specs.Records.{amount_of, destination_in, sender_in}
 use Rattle.paper.specs.Reading.{parts, records_of, record_at}
@@ -18,7 +15,6 @@ use Rattle.paper.specs.Postings.{Posting, posting, posted_by, own_postings}
 use Rattle.paper.specs.Sessions.{zero_cell, cells_after}
 use Rattle.paper.proofs.Lists.{length_parts}
 use Rattle.paper.proofs.Places.{parts_from}
-use Rattle.field.proofs.Arms.{in_kinds}
 use Rattle.ledger.specs.Sides.{side}
 use Rattle.ledger.proofs.Cells.{cells_append, cells_none, posted}
 
@@ -39,12 +35,18 @@ module _ (file : List ℕ) (i : ℕ) (cs : List Cell) (r : List ℕ) (here : r �
       rw (k, parts_from 94 (length file / 94) file i l, ← here, e) (cells_append 0 (posted_by (kind_of r) (sender_in r) r) _ cs)
 
   -- one of another kind posts nothing
-  pub passes : {k : Kind} → k ≡ kind_of r → OneOf (0 ∷ 1 ∷ 3 ∷ 4 ∷ 5 ∷ 6 ∷ []) (tag_of kind.the_type k) → from file i cs ≡ from file (i + 1) cs
+  none : (k : Kind) → (k ≡ Individual → ⊥) → posted_by k (sender_in r) r ≡ []
   unfolding posted_by
-  passes {k} e o =
-      let none : [] ≡ posted_by k (sender_in r) r =
-      in_kinds [] (λ k. posted_by k (sender_in r) r) (0 ∷ 1 ∷ 3 ∷ 4 ∷ 5 ∷ 6 ∷ []) (refl, (refl, (refl, (refl, (refl, (refl, tt)))))) k o in
-      go_on (rw (← e) none) ∙ ap (from file (i + 1)) (cells_none 0 cs)
+  none FileHeader d = refl
+  none BatchHeader d = refl
+  none Individual d = absurd (d refl)
+  none Additional d = refl
+  none BatchControl d = refl
+  none FileControl d = refl
+  none Other d = refl
+
+  pub passes : {k : Kind} → k ≡ kind_of r → (k ≡ Individual → ⊥) → from file i cs ≡ from file (i + 1) cs
+  passes {k} e d = go_on (rw (← e, none k d) refl) ∙ ap (from file (i + 1)) (cells_none 0 cs)
 
   -- an individual record posts both its sides
   pub posts : {s d a : ℕ} {b : Bool} {x y : Cell} → Individual ≡ kind_of r → s ≡ sender_in r → d ≡ destination_in r → b ≡ collects (code_of r) → a ≡ amount_of r

@@ -55,14 +55,13 @@ fn entity(out: &mut [u8; Listing::ROOM], at: usize, e: u64, c: Cell) -> usize
 }
 
 // Two cells added up, figure by figure.
+#[tactic(auto, using(std::proofs::lemmas::Int::ints), unfolding(paper::specs::Listing::plus_cell))]
 fn plus(c: Cell, d: Cell) -> Cell
     requires { Touched session_sides (plus_cell c d) }
     ensures { result ≡ plus_cell c d }
 {
-    let p = c.position;
-    let q = d.position;
     Cell {
-        position: ledger::plus(p, q),
+        position: c.position + d.position,
         sent: c.sent + d.sent,
         received: c.received + d.received,
     }

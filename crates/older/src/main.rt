@@ -3,7 +3,7 @@
 #![tactic(auto)]
 
 use files::taking;
-use files::taking::{Filled, Readable, Source};
+use files::taking::Source;
 
 // What names the file.
 const WORD: usize = 1;
@@ -15,22 +15,20 @@ const STDOUT: i32 = 1;
 
 fn ask(source: Source, path: &[u8]) {
     let mut piece = [0u8; PIECE];
-    let filled = source.fill(path, &mut piece);
-    if let Filled::Bytes(_, _) = filled {
+    if source.fill(path, &mut piece).is_ok() {
         io::write_all(STDOUT, &piece);
     }
 }
 
 fn main(rt: HostRuntime) {
     let mut path = io::buffer();
-    let length = taking::name(&rt, WORD, &mut path);
-    let opened = Source::open(&rt, &path[..length]);
-    let Readable::At(source) = opened else {
+    let path = taking::name(&rt, WORD, &mut path).unwrap_or(b"");
+    let Ok(source) = Source::open(&rt, path) else {
         return;
     };
     let Ok(older) = source.copied() else {
         return;
     };
-    ask(source, &path[..length]);
-    ask(older, &path[..length]);
+    ask(source, path);
+    ask(older, path);
 }

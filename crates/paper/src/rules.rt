@@ -36,10 +36,11 @@ pub enum Reader {
     Desk(u64),
 }
 
-// What a reading goes by, but for the roster, which is lent beside it.
+// What a reading goes by: the session's date, currency and roster, which is long and is lent, and who reads.
 #[derive(Clone, Copy)]
-pub struct Terms {
+pub struct Terms<'a> {
     pub date: u64,
     pub currency: Currency,
+    pub roster: &'a [bool; Rules::ROSTER],
     pub reader: Reader,
 }

@@ -5,18 +5,14 @@ use mathlib.Core.List.{List, [], ◌∷◌, ◌++◌, append-nil}
 use mathlib.Core.Path.{◌≡◌, refl, sym, ap, ◌∙◌}
 use native.Mathlib.Omega.{arith}
 use lib.ListN.{length, set, length-append, length-set}
-use types.Run.{OneOf}
-use denote.Enum.Declared.{tag_of}
-use Rattle.paper.specs.contracts.record.Kind as the-kind
 use Rattle.paper.specs.declared.record.Kind.{Kind}
-use Rattle.paper.specs.declared.record.Kind.TheVariants.{BatchHeader, Individual, Additional}
+use Rattle.paper.specs.declared.record.Kind.TheVariants.{FileHeader, BatchHeader, Individual, Additional, BatchControl, FileControl, Other}
 use Rattle.paper.specs.Buffers.{over}
 use Rattle.paper.specs.Extract.{is_to}
 use Rattle.paper.specs.Kinds.{kind_of}
-use Rattle.field.proofs.Arms.{in_kinds}
 use Rattle.paper.specs.Reading.{record_at}
 use Rattle.picking.specs.declared.Picking.{Picking}
-use Rattle.picking.specs.Notes.{is_going, waiting, header_waits, record_goes, record_passes, notes_by, notes_with}
+use Rattle.picking.specs.Notes.{Notes, is_going, waiting, header_waits, record_goes, record_passes, notes_by, notes_with}
 use Rattle.picking.specs.Picks.{Fits, ToNote, Moves}
 
 -- an entry put down behind those that are kept, where one at most is lost
@@ -98,7 +94,16 @@ module _ (e : ℕ) (file : List ℕ) (place : ℕ) (s : Picking) (entry : List �
   additional_left h b n before i = rw (kind, h, sym i.mine ∙ b) i
 
   -- headers of files and controls
-  pub nothing_noted_lem : OneOf (0 ∷ 4 ∷ 5 ∷ 6 ∷ []) (tag_of the-kind.the_type k) → Ends entry s
-  unfolding notes_with notes_by
-  nothing_noted_lem o n before i =
-      rw (kind, ← in_kinds n (λ k. notes_by e k place (record_at file place) n) (0 ∷ 4 ∷ 5 ∷ 6 ∷ []) (refl, (refl, (refl, (refl, tt)))) k o) i
+  none : (j : Kind) → (j ≡ BatchHeader → ⊥) → (j ≡ Individual → ⊥) → (j ≡ Additional → ⊥) → (n : Notes) → notes_by e j place (record_at file place) n ≡ n
+  unfolding notes_by
+  none FileHeader b i a n = refl
+  none BatchHeader b i a n = absurd (b refl)
+  none Individual b i a n = absurd (i refl)
+  none Additional b i a n = absurd (a refl)
+  none BatchControl b i a n = refl
+  none FileControl b i a n = refl
+  none Other b i a n = refl
+
+  pub nothing_noted_lem : (k ≡ BatchHeader → ⊥) → (k ≡ Individual → ⊥) → (k ≡ Additional → ⊥) → Ends entry s
+  unfolding notes_with
+  nothing_noted_lem b i a n before h = rw (kind, none k b i a n) h

@@ -1,5 +1,5 @@
 -- The pass over a file, turn by turn.
-use Prim.Native.Nat.{ℕ, ◌+◌, ◌/◌, ◌≤◌}
+use Prim.Native.Nat.{ℕ, ◌+◌}
 use mathlib.Core.Bool.{false}
 use mathlib.Core.List.{List}
 use mathlib.Core.Path.{◌≡◌, refl}
@@ -8,11 +8,10 @@ use lib.ListN.{length}
 use Rattle.paper.specs.Buffers.{over}
 use Rattle.picking.specs.declared.Picking.{Picking}
 use Rattle.picking.specs.Notes.{is_going, waiting, notes_with, notes_after}
-use Rattle.picking.specs.Picks.{InHand, Moves, Picks}
+use Rattle.picking.specs.Picks.{InHand, Moves}
 
 -- after so many of the records
-pub record Passing (e : ℕ) (file before : List ℕ) (records : ℕ) (s : Picking) (after : List ℕ) (place : ℕ) : Type 0 where
-  pub passed : place ≤ records
+pub record Passing (e : ℕ) (file before : List ℕ) (s : Picking) (after : List ℕ) (place : ℕ) : Type 0 where
   pub long : length before ≡ 10000
   pub noted : InHand (notes_after e file place) before s after
 
@@ -24,7 +23,3 @@ pub turn : (e : ℕ) (file : List ℕ) (place : ℕ) {before entry exit : List �
     → Moves (notes_with e file place) entry s exit t → InHand (notes_after e file (place + 1)) before t exit
 unfolding notes_after
 turn e file place {before} h m = rw add-one (m (notes_after e file place) before h)
-
-pub ended : (e : ℕ) (file : List ℕ) (place : ℕ) {before after : List ℕ} {s : Picking} → InHand (notes_after e file place) before s after → place ≡ length file / 94
-    → Picks e file before (record { count = s.count; batches = s.batches }) after
-ended e file place h q = let f = rw q at h in record { count = f.count; batches = f.batches; places = f.places }

@@ -27,7 +27,7 @@ impl Picked {
 #[derive(Clone, Copy)]
 pub struct Picking {
     pub count: usize,
-    // after what waits
+    // after what waits: an index, by which it goes; an enum of what waits would be turned into one at each use
     pub next: usize,
     pub batches: usize,
     // whether the last individual record goes
@@ -35,6 +35,7 @@ pub struct Picking {
 }
 
 // At any branch.
+#[tactic(auto, unfolding(paper::specs::Extract::is_to))]
 fn is_to(entity: u64, rec: &[u8]) -> bool
     requires { length rec.now ≡ 94 }
     ensures { result ≡ is_to entity rec.now }
@@ -55,13 +56,11 @@ fn waits(picking: Picking, places: &mut [u16], place: usize) -> Picking
     requires { ToNote place picking places.old }
     ensures { Moves (header_waits place) places.old picking places.new result }
 {
-    let count = picking.count;
-    note(places, count, place);
+    note(places, picking.count, place);
     Picking {
-        count,
-        next: count + 1,
-        batches: picking.batches,
+        next: picking.count + 1,
         mine: false,
+        ..picking
     }
 }
 
@@ -85,10 +84,8 @@ fn passes(picking: Picking) -> Picking
     ensures { (places : List ℕ) → Moves record_passes places picking places result }
 {
     Picking {
-        count: picking.count,
-        next: picking.next,
-        batches: picking.batches,
         mine: false,
+        ..picking
     }
 }
 
@@ -102,15 +99,17 @@ fn step(picking: Picking, entity: u64, file: &[u8], place: usize, places: &mut [
         Kind::BatchHeader => waits(picking, places, place),
         Kind::Individual => {
             if is_to(entity, rec) {
-                return goes(picking, places, place);
+                goes(picking, places, place)
+            } else {
+                passes(picking)
             }
-            passes(picking)
         }
         Kind::Additional => {
             if picking.mine {
-                return goes(picking, places, place);
+                goes(picking, places, place)
+            } else {
+                picking
             }
-            picking
         }
         _ => picking,
     }
@@ -123,17 +122,14 @@ pub fn pick(entity: u64, file: &[u8], places: &mut [u16; Picked::MOST]) -> Picke
 {
     // as a slice, since its length is then known
     let held = &mut places[..];
-    let records = file.len() / Record::LENGTH;
     let mut picking = Picking {
         count: 0,
         next: 0,
         batches: 0,
         mine: false,
     };
-    let mut place: usize = 0;
-    while place < records {
+    for place in 0..file.len() / Record::LENGTH {
         picking = step(picking, entity, file, place, held);
-        place += 1;
     }
     Picked {
         count: picking.count,

@@ -1,19 +1,20 @@
 -- What a reading says, and the number of records, fix the answer.
 use Prim.Native.Nat.{ℕ}
 use mathlib.Core.Path.{◌≡◌, sym, ap, ap₂, ◌∙◌}
-use Rattle.paper.specs.Answers.{number_of}
-use Rattle.paper.proofs.Numbers.{own_number}
-use Rattle.reading.specs.declared.Reading.{Reading}
-use Rattle.reading.specs.declared.Reading.TheVariants.{Accepted, Refused}
-use Rattle.reading.specs.Said.{reading_says, Carries}
 use native.Mathlib.Omega.{arith}
+use Rattle.std.proofs.Common.{Result, Ok, Err}
+use Rattle.paper.specs.declared.answer.Fault.{Fault}
+use Rattle.paper.specs.declared.answer.Refusal.{Refusal}
+use Rattle.paper.specs.Answers.{refusal, number_of}
+use Rattle.paper.proofs.Numbers.{own_number}
+use Rattle.reading.specs.Said.{reading_says, Carries}
 
-pub once : (n : ℕ) (a b : Reading) → reading_says a ≡ reading_says b → Carries n a → Carries n b → a ≡ b
+pub once : (n : ℕ) (a b : Result ℕ Refusal) → reading_says a ≡ reading_says b → Carries n a → Carries n b → a ≡ b
 unfolding reading_says Carries
-once n (Accepted k) (Accepted l) h p q = ap Accepted (p ∙ sym q)
-once n (Accepted k) (Refused f m) h p q = let z : ◌≡◌ {A = ℕ} 0 1 = cc in absurd (omega arith)
-once n (Refused f m) (Accepted k) h p q = let z : ◌≡◌ {A = ℕ} 0 1 = cc in absurd (omega arith)
-once n (Refused f m) (Refused g l) h p q =
-    let e : number_of f ≡ number_of g = cc in
-    let w : m ≡ l = cc in
-    ap₂ Refused (own_number f g e) w
+once n (Ok k) (Ok l) h p q = ap Ok (p ∙ sym q)
+once n (Ok k) (Err r) h p q = let z : ◌≡◌ {A = ℕ} 0 1 = cc in absurd (omega arith)
+once n (Err r) (Ok k) h p q = let z : ◌≡◌ {A = ℕ} 0 1 = cc in absurd (omega arith)
+once n (Err r) (Err s) h p q =
+    let e : number_of r.fault ≡ number_of s.fault = cc in
+    let w : r.place ≡ s.place = cc in
+    ap₂ (λ (f : Fault) (m : ℕ). refusal {A = ℕ} f m) (own_number r.fault s.fault e) w

@@ -23,8 +23,7 @@ use Rattle.paper.proofs.Every.{every_drop, every_take}
 use Rattle.paper.proofs.Exactly.{wrong_not_fine}
 use Rattle.paper.proofs.Accepted.{Follows, follows, file_begins, batch_opens, file_ends, first_individual, its_additional, next_individual, batch_closes}
 use Rattle.state.specs.declared.State.{State}
-use Rattle.state.specs.declared.Step.{Step}
-use Rattle.state.specs.States.{meant, stops, after_record, stepped, Preceded, StandsAfter, Arrived, Ready, Steps}
+use Rattle.state.specs.States.{Step, meant, stops, after_record, stepped, Preceded, StandsAfter, Arrived, Ready, Steps}
 use Rattle.reading.specs.Taken.{taken, Comes, Clean, is_entry}
 
 -- ---- characters

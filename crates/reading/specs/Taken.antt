@@ -1,17 +1,15 @@
 -- What one record comes to: its characters, its type's place, its fields, and the state after it. And a run of records.
-use Rattle.std.specs.Prelude.{ℕ, ◌+◌, ◌/◌, ◌≤◌, ◌<◌, Bool, true, false, ◌||◌, List, ◌≡◌, length, take, drop}
+use Rattle.std.specs.Prelude.{ℕ, ◌+◌, ◌/◌, ◌≤◌, ◌<◌, Bool, true, false, ◌||◌, List, ◌≡◌, length, take, drop, Result, Ok, Err}
 use Rattle.paper.specs.declared.record.Before.TheVariants.{Nothing}
 use Rattle.paper.specs.declared.record.Kind.{Kind}
+use Rattle.paper.specs.declared.answer.Refusal.{Refusal}
 use Rattle.paper.specs.Answers.{Said, refused, number_of}
 use Rattle.paper.specs.Fields.{every, good}
 use Rattle.paper.specs.Kinds.{is_individual, is_additional, kind_of}
 use Rattle.paper.specs.Records.{ReadingRules}
 use Rattle.paper.specs.Reading.{judged, next, record_at, reading_from, parts}
 use Rattle.state.specs.declared.State.{State}
-use Rattle.state.specs.declared.Step.{Step}
-use Rattle.state.specs.States.{meant, AfterRecord, after_record, step_says, Standing, Kept}
-use Rattle.reading.specs.declared.Run.{Run}
-use Rattle.reading.specs.declared.Run.TheVariants.{Reached, Stopped}
+use Rattle.state.specs.States.{Step, meant, AfterRecord, after_record, step_says, Standing, Kept}
 
 abbrev pub taken : ReadingRules → List ℕ → ℕ → State → AfterRecord
 taken rules file place st =
@@ -55,11 +53,15 @@ pub record Reaches (rules : ReadingRules) (file : List ℕ) (records place : ℕ
   pub framed : at < records → is_entry (kind_of (record_at file at)) ≡ false
   pub left : on_from rules file records place st ≡ on_from rules file records at after
 
+-- how far a run of records went without fault, and what the next one finds before it; or the fault that ended it, and where
+abbrev pub Run : Type 0
+Run = Result (ℕ × State) Refusal
+
 unfoldable pub Runs : ReadingRules → List ℕ → ℕ → ℕ → State → Run → Type 0
-Runs rules file records place st (Reached at after) = Reaches rules file records place st at after
-Runs rules file records place st (Stopped fault at) = on_from rules file records place st ≡ refused (number_of fault) at
+Runs rules file records place st (Ok reached) = Reaches rules file records place st reached.0 reached.1
+Runs rules file records place st (Err r) = on_from rules file records place st ≡ refused (number_of r.fault) r.place
 
 -- a run went further than where it began
 unfoldable pub Further : ℕ → Run → Type 0
-Further place (Reached at after) = place < at
-Further place (Stopped fault at) = Unit {0}
+Further place (Ok reached) = place < reached.0
+Further place (Err r) = Unit {0}

@@ -14,31 +14,21 @@ ghost use Rattle.reading.specs.Taken.{taken, Comes, Clean, is_entry, Framed, Und
 use characters::{number, text};
 use field::place::Record;
 use field::{kind, place};
-use paper::answer::Fault;
+use paper::answer::{Fault, Refusal};
 use paper::record::{Before, Kind};
-use paper::rules::{Rules, Terms};
+use paper::rules::Terms;
 use state::{
-    State, Step, additional, batch_control, batch_header, file_control, file_header, individual,
+    State, additional, batch_control, batch_header, file_control, file_header, individual,
 };
-use verdicts::order;
-use verdicts::verdict::Verdict;
+use verdicts::verdict::need;
+use verdicts::{order, verdict};
 
 // Characters are tested in blocks of so many bytes, sixteen records and a whole number of what the compiler takes at a time.
 const BLOCK: usize = 16 * Record::LENGTH;
 
-// Acceptance with the number of records, or a refusal with the place of the record it stands at.
+// What a file can be.
 #[derive(Clone, Copy)]
-pub enum Reading {
-    Accepted(usize),
-    Refused(Fault, usize),
-}
-
-// How far a run of records went without fault, and what the next one finds before it. Or the fault that ended it, and where.
-#[derive(Clone, Copy)]
-enum Run {
-    Reached(usize, State),
-    Stopped(Fault, usize),
-}
+pub struct Reading;
 
 impl Reading {
     // Bytes of a file, at least: a header and a control.
@@ -93,13 +83,12 @@ fn characters(clean: bool, rec: &[u8]) -> bool
 }
 
 // Characters, then whether this type may stand here.
-fn stands(clean: bool, rec: &[u8], before: Before, kind: Kind) -> Verdict
+#[tactic(auto, using(verdicts::proofs::Chain::chain))]
+fn stands(clean: bool, rec: &[u8], before: Before, kind: Kind) -> Result<(), Fault>
     requires { clean ≡ true → every good rec.now ≡ true }
     ensures { check_of result ≡ need (every good rec.now) 17 also allowed before kind }
 {
-    if !characters(clean, rec) {
-        return Verdict::Wrong(Fault::Format);
-    }
+    need(characters(clean, rec), Fault::Format)?;
     order::allowed(before, kind)
 }
 
@@ -113,149 +102,119 @@ fn is_entry(kind: Kind) -> bool
 // One of these. Its kind is written out, so that the compiler knows what may stand before it.
 fn entry(
     terms: Terms,
-    roster: &[bool; Rules::ROSTER],
     file: &[u8],
     clean: bool,
     place: usize,
     kind: Kind,
     state: State,
-) -> Step
+) -> Result<State, Fault>
     requires arrived { Arrived file.now place state }
     requires place_value { clean ≡ true → every good (record_at file.now place) ≡ true }
     requires place_value_2 { (kind_of (record_at file.now place) ≡ kind) × (is_entry kind ≡ true) }
-    ensures { Comes (taken (under terms roster.now) file.now place state) file.now place result }
+    ensures { Comes (taken (under terms.entry) file.now place state) file.now place result }
 {
     let rec = place::record_at(file, place);
-    let before = state.before;
     match kind {
-        Kind::Individual => match stands(clean, rec, before, Kind::Individual) {
-            Verdict::Right => individual::step(terms, roster, file, place, state),
-            Verdict::Wrong(fault) => Step::Stop(fault),
-        },
-        Kind::Additional => match stands(clean, rec, before, Kind::Additional) {
-            Verdict::Right => additional::step(file, place, state),
-            Verdict::Wrong(fault) => Step::Stop(fault),
-        },
-        _ => Step::Stop(Fault::Format),
+        Kind::Individual => {
+            stands(clean, rec, state.before, Kind::Individual)?;
+            individual::step(terms, file, place, state)
+        }
+        Kind::Additional => {
+            stands(clean, rec, state.before, Kind::Additional)?;
+            additional::step(file, place, state)
+        }
+        _ => Err(Fault::Format),
     }
 }
 
 // Entries in turn, up to a record that is none.
 fn entries(
     terms: Terms,
-    roster: &[bool; Rules::ROSTER],
     file: &[u8],
     front: usize,
     records: usize,
-    place: usize,
+    first: usize,
     state: State,
-) -> Run
-    requires { Underway file.now records front place state }
-    ensures { Runs (under terms roster.now) file.now records place state result }
+) -> Result<(usize, State), Refusal>
+    requires { Underway file.now records front first state }
+    ensures { Runs (under terms.entry) file.now records first state result }
 {
-    let mut at = place;
     let mut now = state;
-    while at < records {
-        let kind = kind::kind(place::record_at(file, at));
+    for place in first..records {
+        let kind = kind::kind(place::record_at(file, place));
         if !is_entry(kind) {
-            return Run::Reached(at, now);
+            return Ok((place, now));
         }
-        match entry(terms, roster, file, in_front(front, at), at, kind, now) {
-            Step::Next(next) => {
-                now = next;
-            }
-            Step::Stop(fault) => {
-                return Run::Stopped(fault, at);
-            }
-        }
-        at += 1;
+        let clean = in_front(front, place);
+        now = verdict::at(entry(terms, file, clean, place, kind, now), place)?;
     }
-    Run::Reached(at, now)
+    Ok((records, now))
 }
 
 // Any other record. An entry is met here at the beginning of a file only, where it may not stand.
-fn frame(
-    terms: Terms,
-    roster: &[bool; Rules::ROSTER],
-    file: &[u8],
-    clean: bool,
-    place: usize,
-    state: State,
-) -> Step
+fn frame(terms: Terms, file: &[u8], clean: bool, place: usize, state: State) -> Result<State, Fault>
     requires arrived { Arrived file.now place state }
     requires place_value { clean ≡ true → every good (record_at file.now place) ≡ true }
     requires framed { Framed file.now place state }
-    ensures { Comes (taken (under terms roster.now) file.now place state) file.now place result }
+    ensures { Comes (taken (under terms.entry) file.now place state) file.now place result }
 {
     let rec = place::record_at(file, place);
     let kind = kind::kind(rec);
-    let before = state.before;
-    let stands = stands(clean, rec, before, kind);
-    if let Verdict::Wrong(fault) = stands {
-        return Step::Stop(fault);
-    }
+    stands(clean, rec, state.before, kind)?;
     match kind {
-        Kind::FileHeader => file_header::step(terms, roster, file, place, state),
-        Kind::BatchHeader => batch_header::step(terms, roster, file, place, state),
+        Kind::FileHeader => file_header::step(terms, file, place, state),
+        Kind::BatchHeader => batch_header::step(terms, file, place, state),
         Kind::BatchControl => batch_control::step(file, place, state),
         Kind::FileControl => file_control::step(file, place, state),
-        Kind::Individual => Step::Stop(Fault::Format),
-        Kind::Additional => Step::Stop(Fault::Format),
-        Kind::Other => Step::Stop(Fault::Format),
+        Kind::Individual => Err(Fault::Format),
+        Kind::Additional => Err(Fault::Format),
+        Kind::Other => Err(Fault::Format),
     }
 }
 
 // A record that is no entry, and the entries that follow it.
 fn onward(
     terms: Terms,
-    roster: &[bool; Rules::ROSTER],
     file: &[u8],
     front: usize,
     records: usize,
     place: usize,
     state: State,
-) -> Run
+) -> Result<(usize, State), Refusal>
     requires underway { Underway file.now records front place state }
     requires place_lt_records { (place < records) × Framed file.now place state }
-    ensures { Runs (under terms roster.now) file.now records place state result × Further place result }
+    ensures { Runs (under terms.entry) file.now records place state result × Further place result }
 {
-    match frame(terms, roster, file, in_front(front, place), place, state) {
-        Step::Next(next) => entries(terms, roster, file, front, records, place + 1, next),
-        Step::Stop(fault) => Run::Stopped(fault, place),
-    }
+    let clean = in_front(front, place);
+    let next = verdict::at(frame(terms, file, clean, place, state), place)?;
+    entries(terms, file, front, records, place + 1, next)
 }
 
 // Records that end before a file control are wrong one past the last.
-fn finish(before: Before, records: usize) -> Reading
+fn finish(before: Before, records: usize) -> Result<usize, Refusal>
     ensures { (reading_says result ≡ finish before records) × Carries records result }
 {
     match before {
-        Before::Ended => Reading::Accepted(records),
-        _ => Reading::Refused(Fault::Format, records),
+        Before::Ended => Ok(records),
+        _ => Err(Fault::Format.at(records)),
     }
 }
 
-pub fn read(terms: Terms, roster: &[bool; Rules::ROSTER], file: &[u8]) -> Reading
-    ensures { (reading_says result ≡ reading_by (under terms roster.now) file.now) × Carries (length file.now / 94) result }
+// Acceptance with the number of records.
+pub fn read(terms: Terms, file: &[u8]) -> Result<usize, Refusal>
+    ensures { (reading_says result ≡ reading_by (under terms.entry) file.now) × Carries (length file.now / 94) result }
 {
     if !length_good(file.len()) {
-        return Reading::Refused(Fault::Length, 0);
+        return Err(Fault::Length.at(0));
     }
     let front = clean_front(file);
     let records = file.len() / Record::LENGTH;
     let mut state = State::START;
     let mut place: usize = 0;
     while place < records {
-        match onward(terms, roster, file, front, records, place, state) {
-            Run::Reached(at, after) => {
-                place = at;
-                state = after;
-            }
-            Run::Stopped(fault, at) => {
-                return Reading::Refused(fault, at);
-            }
-        }
+        let (at, after) = onward(terms, file, front, records, place, state)?;
+        place = at;
+        state = after;
     }
-    let before = state.before;
-    finish(before, records)
+    finish(state.before, records)
 }

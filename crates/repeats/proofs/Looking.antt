@@ -1,9 +1,9 @@
 -- The loop that looks for a number that stood before, in pages: what is known at each place.
-use Prim.Native.Nat.{ℕ, ◌+◌, ◌-◌, ◌*◌, ◌/◌, ◌%◌, ◌≤◌, ◌<◌}
+use Prim.Native.Nat.{ℕ, ◌+◌, ◌*◌, ◌/◌, ◌≤◌, ◌<◌}
 use mathlib.Core.Bool.{true, false, ◌||◌}
 use mathlib.Core.List.{List}
 use mathlib.Core.Path.{◌≡◌, refl, ◌∙◌}
-use native.Mathlib.Nat.{div-lt_iff_lt-mul, div-le_self, mod-lt, mul-le-mul, mul-le-mul_right, le_trans, lt_of_lt_of_le}
+use native.Mathlib.Nat.{div-lt_iff_lt-mul, div-le_self, mul-le-mul_right, le_trans, lt_of_lt_of_le}
 use native.Mathlib.Omega.{arith}
 use lib.Dec.{eqb}
 use lib.ListN.{length, get_or, set, length-set}
@@ -89,17 +89,6 @@ module _ {file pages₀ seen₀ : List ℕ} {page from : ℕ} {pages seen : List
   module _ {pages₁ : List ℕ} {taken₁ n : ℕ} (r : Ready file pages₀ page pages₁ seen taken₁ place n) where
     pub bit_bound : place < length file / 94 → bit_for page pages₁ n < length seen * 8
     bit_bound u = lt_of_lt_of_le (bit_below page r.set n r.some) (pages_fit r.few u)
-
-    -- and so is all that its bit is reckoned from
-    module _ (few : length file / 94 ≤ 10000) (u : place < length file / 94) where
-      pub page_bound : get_or pages₁ (n / page) 0 ≤ 10000
-      page_bound = omega (arith, r.set.most (n / page), r.few)
-
-      pub from_bound : (get_or pages₁ (n / page) 0 - 1) * page ≤ 10000 * 4096
-      from_bound = mul-le-mul {n₂ = 10000} (omega (arith, page_bound)) h.room.small
-
-      pub rest_bound : n % page < 4096
-      rest_bound = lt_of_lt_of_le (mod-lt n h.room.some) h.room.small
 
     -- that of an individual record
     module _ (e : is_individual (kind_of (record_at file place)) ≡ true) (q : n ≡ number_in (record_at file place)) (seven : n < 10000000) where

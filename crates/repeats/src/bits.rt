@@ -15,6 +15,5 @@ pub fn add(seen: &mut [u8], n: usize)
     requires { (n < length seen.old * 8) × (has_bit seen.old n ≡ false) }
     ensures { (k : ℕ) → has_bit seen.new k ≡ (eqb k n || has_bit seen.old k) }
 {
-    let i = n / 8;
-    seen[i] = seen[i] + (1 << (n % 8));
+    seen[n / 8] += 1 << (n % 8);
 }

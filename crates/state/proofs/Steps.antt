@@ -21,7 +21,10 @@ use Rattle.paper.specs.Controls.{zeros, plus, with_individual, with_additional}
 use Rattle.paper.specs.Reading as paper
 use Rattle.paper.specs.Reading.{fields, before_next, last_individual, counter_next, batch_next, closed_next, counted, flag, record_at}
 use Rattle.state.specs.declared.State.{State}
-use Rattle.state.specs.declared.Step.TheVariants.{Next, Stop}
+use Rattle.std.proofs.Common.{Result, Ok, Err, IsErr}
+use Rattle.std.specs.Prelude.{IsErrAnd}
+use Rattle.std.proofs.lemmas.Result.{err_from_is_err_and}
+use Rattle.paper.specs.declared.answer.Fault.{Fault}
 use Rattle.state.specs.States.{meant, step_says, after_record, stepped, Preceded, Kept, header_place, individual_place, higher, before_by, counter_by, with_entry, batch_by, after_by, past_by, Knows, Held, StandsAfter, Ready, Entered, EntryTold, Advances, Steps}
 use Rattle.repeats.specs.Numbers.{numbers_before, repeated}
 use Rattle.paper.proofs.Tests.{not_both}
@@ -36,15 +39,20 @@ use Rattle.controls.proofs.Bounds.{below_more, below_zeros, below_individual, be
 module _ {kind : Kind} (rules : ReadingRules) {file : List ℕ} {place : ℕ} {st : State} (ready : Ready kind file place st) where
   -- the record is without fault
   pub goes_on : {next : State} → fields kind rules (meant file place st) (record_at file place) ≡ fine → Advances kind file place st next
-      → Steps kind rules file place st (Next next)
+      → Steps kind rules file place st (Ok next)
   unfolding step_says stepped after_record paper.next Kept Held
   goes_on e a = record { says = rw (ready.told, e, a.goes); kept = a.kept; held = a.held }
 
   -- its first fault is this
   pub stops_at : {fault : Fault} → fields kind rules (meant file place st) (record_at file place) ≡ wrong (number_of fault)
-      → Steps kind rules file place st (Stop fault)
+      → Steps kind rules file place st (Err fault)
   unfolding step_says stepped after_record Kept Held
   stops_at e = record { says = rw (ready.told, e); kept = tt; held = tt }
+
+  -- and `?` hands it back
+  pub stops_as : (fault : Fault) (r : Result State Fault) → IsErr r × IsErrAnd r (λ y. y ≡ fault)
+      → fields kind rules (meant file place st) (record_at file place) ≡ wrong (number_of fault) → Steps kind rules file place st r
+  stops_as fault r h e = let p = err_from_is_err_and r h.1 in rw (p.1, p.2) (stops_at e)
 
 -- ---- an individual record's number, new in the file or not
 

@@ -1,9 +1,11 @@
 -- What a state of the code means, and what a step of it says.
-use Rattle.std.specs.Prelude.{ℕ, ◌*◌, ◌^◌, ◌+◌, ◌≤◌, ◌<◌, Bool, true, false, ◌&&◌, cond, List, [], ◌⊎◌, ◌≡◌, ltb, length}
+use Rattle.std.specs.Prelude.{ℕ, ◌*◌, ◌^◌, ◌+◌, ◌≤◌, ◌<◌, Bool, true, false, ◌&&◌, cond, List, [], ◌⊎◌, ◌≡◌, ltb, length, Result, Ok, Err}
 use Rattle.paper.specs.declared.record.Before.{Before}
 use Rattle.paper.specs.declared.record.Before.TheVariants.{Nothing, Between, Opened, Flagged, Inside, Ended}
 use Rattle.paper.specs.declared.record.Kind.{Kind}
 use Rattle.paper.specs.declared.record.Kind.TheVariants.{FileHeader, BatchHeader, Individual, Additional, BatchControl, FileControl, Other}
+use Rattle.paper.specs.declared.answer.Fault.{Fault}
+use Rattle.paper.specs.declared.answer.Fault.TheVariants.{Counter}
 use Rattle.paper.specs.Answers.{number_of}
 use Rattle.paper.specs.Checks.{Check, fine, wrong}
 use Rattle.paper.specs.Fields.{among}
@@ -19,10 +21,6 @@ use Rattle.repeats.specs.Numbers.{numbers_before, repeated, FreshTo, Looked}
 use Rattle.entries.specs.declared.individual.Entry.{Entry}
 use Rattle.entries.specs.Judging.{entry_of}
 use Rattle.state.specs.declared.State.{State}
-use Rattle.state.specs.declared.numbers.Number.{Number}
-use Rattle.state.specs.declared.numbers.Number.TheVariants.{New, Repeated}
-use Rattle.state.specs.declared.Step.{Step}
-use Rattle.state.specs.declared.Step.TheVariants.{Next, Stop}
 
 -- the paper's state: places stand for the records there
 unfoldable pub meant : List ℕ → ℕ → State → paper.State
@@ -49,10 +47,14 @@ unfoldable pub after_record : Check → paper.State → AfterRecord
 after_record fine s = goes s
 after_record (wrong n) s = stops n
 
+-- one record further, or a fault in it
+abbrev pub Step : Type 0
+Step = Result State Fault
+
 -- what a step says, at the next record's place
 unfoldable pub step_says : List ℕ → ℕ → Step → AfterRecord
-step_says file place (Next st) = goes (meant file place st)
-step_says file place (Stop fault) = stops (number_of fault)
+step_says file place (Ok st) = goes (meant file place st)
+step_says file place (Err fault) = stops (number_of fault)
 
 -- room: each of the records before this place adds at most ten digits
 pub record RoomToCount (place : ℕ) (st : State) : Type 0 where
@@ -82,8 +84,8 @@ pub record Standing (file : List ℕ) (place : ℕ) (st : State) : Type 0 where
 
 -- what a step keeps for the next
 unfoldable pub Kept : List ℕ → ℕ → Step → Type 0
-Kept file place (Next st) = Standing file place st
-Kept file place (Stop fault) = Unit {0}
+Kept file place (Ok st) = Standing file place st
+Kept file place (Err fault) = Unit {0}
 
 -- a record at this place can be read
 pub record Arrived (file : List ℕ) (place : ℕ) (st : State) : Type 0 where
@@ -172,9 +174,10 @@ pub record FreshBy (file : List ℕ) (place number highest known fresh : ℕ) : 
   pub above : ltb highest number ≡ true → fresh ≡ known
   pub looked : ltb highest number ≡ false → Looked file place known fresh
 
-unfoldable pub NumberSays : List ℕ → ℕ → ℕ → ℕ → ℕ → Number → Type 0
-NumberSays file place number highest known (New fresh) = (repeated file place ≡ false) × FreshBy file place number highest known fresh
-NumberSays file place number highest known Repeated = repeated file place ≡ true
+-- the number is new, and so are those up to a place; or it stood before
+unfoldable pub NumberSays : List ℕ → ℕ → ℕ → ℕ → ℕ → Result ℕ Fault → Type 0
+NumberSays file place number highest known (Ok fresh) = (repeated file place ≡ false) × FreshBy file place number highest known fresh
+NumberSays file place number highest known (Err fault) = (repeated file place ≡ true) × (fault ≡ Counter)
 
 abbrev pub KnowsIf : Bool → List ℕ → ℕ → State → ℕ → Type 0
 KnowsIf true file place st fresh = FreshBy file place (number_in (record_at file place)) st.highest st.fresh fresh
@@ -191,8 +194,8 @@ pub record HeldBy (kind : Kind) (file : List ℕ) (place : ℕ) (st after : Stat
   pub fresh : Knows kind file place st after.fresh
 
 unfoldable pub Held : Kind → List ℕ → ℕ → State → Step → Type 0
-Held kind file place st (Next after) = HeldBy kind file place st after
-Held kind file place st (Stop fault) = Unit {0}
+Held kind file place st (Ok after) = HeldBy kind file place st after
+Held kind file place st (Err fault) = Unit {0}
 
 -- the numbers of an individual record of a known code
 abbrev pub Entered : List ℕ → Entry → Type 0

@@ -8,7 +8,6 @@ ghost use Rattle.state.specs.States.{RoomToCount, after_by, past_by};
 use controls::tally;
 use entries::individual::Entry;
 use field::place::Record;
-use paper::answer::Fault;
 use paper::record::{Before, Kind, Tally};
 
 pub mod additional;
@@ -39,13 +38,6 @@ pub struct State {
     pub batch: Tally,
     // what the file control counts of the batches closed
     pub closed: Tally,
-}
-
-// One record further, or a fault in it.
-#[derive(Clone, Copy)]
-pub enum Step {
-    Next(State),
-    Stop(Fault),
 }
 
 impl State {

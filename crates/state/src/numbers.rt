@@ -7,15 +7,17 @@ ghost use Rattle.paper.specs.Reading.{record_at};
 ghost use Rattle.repeats.specs.Numbers.{numbers_before, FreshTo};
 ghost use Rattle.state.specs.States.{NumberSays};
 
-// It is, and so are those up to a place; or it stood before.
-#[derive(Clone, Copy)]
-pub enum Number {
-    New(usize),
-    Repeated,
-}
+use paper::answer::Fault;
 
+// It is, and so are those up to the place answered; or it stood before.
 // `highest` is the largest of the batches before: a number above it needs no look, since it is above those of its own batch too.
-pub fn judge(file: &[u8], place: usize, number: u64, highest: u64, known: usize) -> Number
+pub fn judge(
+    file: &[u8],
+    place: usize,
+    number: u64,
+    highest: u64,
+    known: usize,
+) -> Result<usize, Fault>
     requires file_len_bound { (length file.now ≤ 940000) × (place * 94 + 94 ≤ length file.now) × (0 < place) }
     requires place_value { (is_individual (kind_of (record_at file.now place)) ≡ true) × (number ≡ number_in (record_at file.now place)) }
     requires by_index { (n : ℕ) → among (numbers_before file.now place) n ≡ true → (n ≤ highest) ⊎ (n < number) }
@@ -23,11 +25,11 @@ pub fn judge(file: &[u8], place: usize, number: u64, highest: u64, known: usize)
     ensures { NumberSays file.now place number highest known result }
 {
     if number > highest {
-        return Number::New(known);
+        return Ok(known);
     }
     let fresh = repeats::fresh(file, place, known);
     if fresh == place {
-        return Number::Repeated;
+        return Err(Fault::Counter);
     }
-    Number::New(fresh)
+    Ok(fresh)
 }

@@ -59,6 +59,9 @@ module _ (file : List ℕ) (place : ℕ) {old new : List ℕ} {at : ℕ} (w : Wr
   pub as_long : length new ≡ length old
   as_long = kept w (omega (arith, w.next, passed_fits file place))
 
+  pub put_inside : at ≤ length new
+  put_inside = (again w).inside
+
   pub whole_put : length file / 94 ≤ place → new ≡ over (strip file) old
   whole_put h = (whole w).1 ∙ rw (all_passed file place h)
 

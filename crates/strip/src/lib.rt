@@ -12,31 +12,29 @@ use paper::answer::{Fault, Refusal};
 mod marks;
 
 // How many bytes the tray takes.
+#[tactic(auto, using(crate::proofs::Passing::none_passed, crate::proofs::Passing::all_passed, crate::proofs::Passing::one_longer))]
 fn size(file: &[u8]) -> usize
     requires { length file.now ≤ 940000 }
     ensures { result ≡ length (strip file.now) }
 {
     let records = file.len() / Record::LENGTH;
-    let mut size: usize = 0;
-    let mut place: usize = 0;
-    while place < records {
+    let mut size = 0;
+    for place in 0..records {
         size += marks::bytes(place::record_at(file, place));
-        place += 1;
     }
     size
 }
 
 // The records in order, each behind those before it.
+#[tactic(auto, using(crate::proofs::Passing::as_long, crate::proofs::Passing::put_inside, crate::proofs::Passing::record_room))]
 fn write(out: &mut [u8], file: &[u8])
     requires { (length file.now ≤ 940000) × (length (strip file.now) ≤ length out.old) }
     ensures { out.new ≡ over (strip file.now) out.old }
 {
     let records = file.len() / Record::LENGTH;
-    let mut at: usize = 0;
-    let mut place: usize = 0;
-    while place < records {
+    let mut at = 0;
+    for place in 0..records {
         at += marks::marked(&mut out[at..], place::record_at(file, place));
-        place += 1;
     }
 }
 

@@ -77,16 +77,15 @@ fn good_at(tray: &[u8], place: usize) -> bool
 }
 
 // 207 at the first bad record.
+#[tactic(auto, using(crate::proofs::Passing::stops, crate::proofs::Passing::goes_on, crate::proofs::Passing::ends))]
 fn fault(tray: &[u8]) -> Result<(), Refusal>
     ensures { said result ≡ tray_fault 0 (tray_records tray.now) }
 {
     let records = tray.len() / Tray::RECORD;
-    let mut place: usize = 0;
-    while place < records {
+    for place in 0..records {
         if !good_at(tray, place) {
             return Err(Fault::Tray.at(place));
         }
-        place += 1;
     }
     Ok(())
 }
@@ -103,17 +102,16 @@ pub fn answer(header: &[u8], tray: &[u8]) -> Result<(), Refusal>
 }
 
 // How many of its records open a batch, whatever else is wrong with it.
+#[tactic(auto, using(crate::proofs::Passing::none_counted, crate::proofs::Passing::all_counted))]
 pub fn batches(tray: &[u8]) -> usize
     ensures { (result ≡ batches_in 0 (bodies tray.now)) × (result * 96 ≤ length tray.now) }
 {
     let records = tray.len() / Tray::RECORD;
-    let mut count: usize = 0;
-    let mut place: usize = 0;
-    while place < records {
+    let mut count = 0;
+    for place in 0..records {
         if batches::opens(body_at(tray, place)) {
             count += 1;
         }
-        place += 1;
     }
     count
 }

@@ -8,7 +8,7 @@ use borrow.Author.Tests.{eq-eqb, ne_eqb}
 use lib.Dec.{ltb, eqb}
 use lib.ListN.{length, get_or, set}
 use Rattle.typed.specs.declared.roster.Roster.{Roster}
-use Rattle.typed.specs.Rosters.{separator, WrongWord, told_by, told_in, noted, wrong_noted, marks_after, progress_after, closed, progress_with, grown_if, with_if, read_on, which_if, wrong_in}
+use Rattle.typed.specs.Rosters.{separator, WrongWord, shown_in, noted, wrong_noted, marks_after, progress_after, closed, progress_with, grown_if, with_if, read_on, told_in, wrong_in}
 
 -- what is told after part of a text
 abbrev pub tells : Roster → WrongWord
@@ -29,7 +29,7 @@ abbrev Same : Roster → Roster → Type 0
 Same r s = (wrong_noted s.listed ≡ true) × (s.bytes ≡ r.bytes) × (s.progress.place ≡ r.progress.place) × (s.progress.kept ≡ r.progress.kept)
 
 same_told : (r s : Roster) → wrong_noted r.listed ≡ true → Same r s → tells s ≡ tells r
-unfolding wrong_in which_if told_by
+unfolding wrong_in shown_in
 same_told r s h e = rw (h, e.0, e.1, e.2, e.3)
 
 same_closed : (r : Roster) → wrong_noted r.listed ≡ true → Same r (closed r)

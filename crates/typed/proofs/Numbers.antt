@@ -85,9 +85,6 @@ module _ (most : ℕ) where
       go true false e f = omega arith
       go false l e f = omega arith
 
-  pub grown_bounded : (n b : ℕ) {r : ℕ} → r ≡ grown most n b → (r ≡ grown most n b) × (r ≤ most * 10 + 9)
-  grown_bounded n b e = (e, rw e (grown_below n b))
-
   pub grown_by_below : (word : List ℕ) (n : ℕ) → n ≤ most * 10 + 9 → grown_by most n word ≤ most * 10 + 9
   unfolding grown_by
   grown_by_below [] n h = h

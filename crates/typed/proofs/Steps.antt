@@ -1,45 +1,36 @@
--- What the functions come to, step by step: a word as a field, a text gone through byte by byte, the marks one after the other.
-use Prim.Native.Nat.{ℕ, suc, ◌+◌, ◌-◌, ◌≤◌, ◌<◌}
+-- What the functions come to, step by step: a word by its characters, the marks one after the other.
+use Prim.Native.Nat.{ℕ, suc, ◌+◌, ◌≤◌, ◌<◌}
 use native.Mathlib.Nat.{add-zero}
 use native.Mathlib.Numerals.{add-one}
 use native.Mathlib.Omega.{arith}
-use mathlib.Core.Bool.{Bool, true, false}
+use mathlib.Core.Bool.{Bool, true, false, ◌&&◌}
 use mathlib.Core.List.{List, [], ◌∷◌, ◌++◌, append-nil}
 use mathlib.Core.Path.{◌≡◌, refl, sym, ap, ◌∙◌}
-use borrow.Author.Tests.{ne_eqb}
 use lib.Dec.{eqb}
-use lib.ListN.{length, get_or, take, drop, set, drop_of_length-le, length-append, length-set}
+use lib.ListN.{length, get_or, take, drop, set, length-append, length-set}
 use lib.Seq.{drop-cons, take-suc, take_all, length-take-le, append_snoc, set-append_seam}
-use Rattle.paper.specs.Fields.{field, same}
+use Rattle.std.specs.Cmp.Lexicographic.{pointwise}
+use Rattle.std.specs.Prelude.{fold}
+use Rattle.typed.specs.Words.{grown, grown_by}
+use Rattle.paper.specs.Fields.{same}
 use Rattle.paper.specs.Buffers.{over}
 use Rattle.typed.specs.Rosters.{numbers_marked}
 
 -- ---- a word
 
--- the field of all its positions
-pub whole : (word : List ℕ) (last : ℕ) → length word ≡ last → field word 1 last ≡ word
-whole word last h = take_all (last + 1 - 1) word (omega arith)
-
-pub nothing : (word name : List ℕ) → length word ≡ 0 → eqb (length name) 0 ≡ same word name
+-- the library's equality of bytes is that of fields
+pub same_is : (word name : List ℕ) → pointwise eqb word name ≡ same word name
 unfolding same
-nothing [] [] h = refl
-nothing [] (y ∷ name) h = ne_eqb (suc (length name)) 0 (omega arith)
-nothing (x ∷ word) name h = absurd (omega arith)
+same_is [] [] = refl
+same_is [] (y ∷ name) = refl
+same_is (x ∷ word) [] = refl
+same_is (x ∷ word) (y ∷ name) = ap (λ (b : Bool). eqb x y && b) (same_is word name)
 
--- ---- a list gone through with a state
-
--- the first i have been passed
-abbrev pub Passed : {S : Type 0} → (S → List ℕ → S) → List ℕ → S → S → ℕ → Type 0
-Passed through list first s i = (i ≤ length list) × (through first list ≡ through s (drop i list))
-
-module _ {S : Type 0} (step : S → ℕ → S) (through : S → List ℕ → S)
-    (none : (s : S) → through s [] ≡ s) (one : (s : S) (b : ℕ) (bs : List ℕ) → through s (b ∷ bs) ≡ through (step s b) bs)
-    (list : List ℕ) (first s : S) (i : ℕ) (p : Passed through list first s i) where
-  pub pass_turn : {t : S} → i < length list → t ≡ step s (get_or list i 0) → Passed through list first t (i + 1)
-  pass_turn l e = (omega arith, p.1 ∙ rw (add-one, drop-cons list i 0 l, one, e))
-
-  pub pass_end : length list ≤ i → s ≡ through first list
-  pass_end l = sym (p.1 ∙ rw (drop_of_length-le list l) (none s))
+-- a word's number, character by character
+pub folded : (most n : ℕ) (word : List ℕ) → fold (grown most) n word ≡ grown_by most n word
+unfolding grown_by
+folded most n [] = refl
+folded most n (b ∷ bs) = folded most (grown most n b) bs
 
 -- ---- the numbers of the marks, written one after the other
 

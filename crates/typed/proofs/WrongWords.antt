@@ -1,6 +1,5 @@
 -- The first wrong word, as it is kept while a text is read, and that of the text.
 use Prim.Native.Nat.{ℕ, ◌+◌, ◌^◌, ◌≤◌, ◌<◌}
-use native.Mathlib.Nat.{min-le_left}
 use native.Mathlib.Numerals.{add-one}
 use native.Mathlib.Omega.{arith}
 use mathlib.Core.Bool.{Bool, true, false, not, cond, or-false}
@@ -9,14 +8,13 @@ use mathlib.Core.Logic.{◌⊎◌, inl, inr, ⊎_elim}
 use mathlib.Core.Path.{◌≡◌, refl, sym, ap, ◌∙◌, subst}
 use borrow.Author.Tests.{not-true, not-false, ltb-true, ltb-false, lt-ltb, le-ltb}
 use lib.Dec.{ltb, eqb}
-use lib.ListN.{length, get_or, take, set, length-set, length-append, length-replicate, length-take}
+use lib.ListN.{length, get_or, take, set, length-set, length-append, length-replicate}
 use lib.Seq.{take_all, take-append-le, take-suc-set, length-take-le}
 use Rattle.paper.specs.Fields.{within, number}
 use Rattle.typed.specs.declared.roster.Progress.{Progress}
 use Rattle.typed.specs.declared.roster.Roster.{Roster}
-use Rattle.typed.specs.declared.roster.Which.TheVariants.{Word, Nothing}
 use Rattle.typed.specs.Words.{entity_typed}
-use Rattle.typed.specs.Rosters.{separator, ended, words_from, no_word, wrong_among, wrong_typed, told_by, told_in, begun, noted, wrong_noted, marks_after, progress_after, closed, next_place, begun_if, bytes_with, kept_with, progress_with, grown_if, with_if, read_on, which_if, wrong_in}
+use Rattle.typed.specs.Rosters.{separator, ended, words_from, no_word, wrong_among, wrong_typed, shown_in, told_in, begun, noted, wrong_noted, marks_after, progress_after, closed, next_place, begun_if, bytes_with, kept_with, progress_with, grown_if, with_if, read_on, wrong_in}
 use Rattle.typed.proofs.Numbers.{as_entity, as_within, as_below, typed_entity}
 use Rattle.typed.proofs.Rosters.{some, some_snoc, Typing, typing_none, typing_on, typing_ended, above_0}
 use Rattle.typed.proofs.NotedWords.{tells, first_set, same_read}
@@ -123,17 +121,6 @@ noted_right marks word l h =
     ∙ ap not first
     ∙ (above_0 e (as_below (number word)) ∙ as_within (number word))
 
--- the bytes kept are all that is told
-take_most : (n : ℕ) (l : List ℕ) → length (take n l) ≤ n
-take_most n l = rw length-take (min-le_left n (length l))
-
-all_kept : (n : ℕ) → n ≤ 64 → cond (ltb n 64) n 64 ≡ n
-all_kept n h = go (ltb n 64) refl
-  where
-    go : (t : Bool) → ltb n 64 ≡ t → cond t n 64 ≡ n
-    go true e = refl
-    go false e = let l = ltb-false n 64 e in omega arith
-
 none_ended : (n : ℕ) (r : Roster) → Typing [] r.progress → Keeping n [] r → Right n [] r
 unfolding closed marks_after progress_after some ended
 none_ended n r t k =
@@ -167,11 +154,10 @@ module _ (n x : ℕ) (word : List ℕ) (r : Roster) (t : Typing (x ∷ word) r.p
   }
 
   is_told : within 1 499 (number (x ∷ word)) ≡ false → Told n (x ∷ word) r
-  unfolding closed progress_after wrong_in which_if told_by some ended wrong_among
+  unfolding closed progress_after wrong_in shown_in some ended wrong_among
   is_told h =
       let f = not-false (wrong_noted (marks_after r.progress r.listed)) (fits ∙ h) in
-      let size = all_kept r.progress.kept (omega (arith, k.kept.1, take_most 64 (x ∷ word))) in
-      record { wrong = f; stays = λ words. rw (f, h, size, k.kept.0, k.kept.2) }
+      record { wrong = f; stays = λ words. rw (f, h, k.kept.0, k.kept.2) }
 
 ending : (n : ℕ) (word : List ℕ) (r : Roster) → Typing word r.progress → Keeping n word r → Right n word r ⊎ Told n word r
 ending n [] r t k = inl (none_ended n r t k)
@@ -184,7 +170,7 @@ ending n (x ∷ word) r t k = go (within 1 499 (number (x ∷ word))) refl
 -- ---- a whole text
 
 none_told : (r : Roster) → wrong_noted r.listed ≡ false → tells r ≡ no_word
-unfolding wrong_in which_if told_by
+unfolding wrong_in shown_in
 none_told r h = rw h
 
 read_right : (text : List ℕ) (n : ℕ) (word : List ℕ) (r : Roster) → Typing word r.progress → Keeping n word r → n + length word + length text ≤ 2 ^ 63
@@ -211,16 +197,3 @@ read_right (b ∷ bs) n word r t k l = go (separator b) (read_right bs)
 pub wrong_typed_lem : (text : List ℕ) → length text ≤ 2 ^ 63 → told_in (wrong_in (closed (read_on begun text))) ≡ wrong_typed text
 unfolding wrong_typed
 wrong_typed_lem text l = read_right text 0 [] begun typing_none keeping_none (omega arith)
-
--- no more is told than is kept
-pub which_inside : (wrong : Bool) (p : Progress) {place size : ℕ} → which_if wrong p ≡ Word place size → size ≤ 64
-unfolding which_if
-which_inside false p e = absurd (never e)
-  where
-    never : {place size : ℕ} → Nothing ≡ Word place size → ⊥
-    never e = let z : ◌≡◌ {A = ℕ} 0 1 = cc in omega arith
-which_inside true p {place} {size} e = go (ltb p.kept 64) refl e
-  where
-    go : (t : Bool) → ltb p.kept 64 ≡ t → Word p.place (cond t p.kept 64) ≡ Word place size → size ≤ 64
-    go true h e = let l = ltb-true p.kept 64 h in let same : p.kept ≡ size = cc in omega arith
-    go false h e = let same : 64 ≡ size = cc in omega arith

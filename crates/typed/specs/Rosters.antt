@@ -1,10 +1,8 @@
 -- A roster as text: entity numbers separated by blanks or line ends.
-use Rattle.std.specs.Prelude.{ℕ, ◌+◌, ◌^◌, Bool, true, false, cond, List, [], ◌∷◌, ◌++◌, map, ltb, get_or, take, set, replicate}
+use Rattle.std.specs.Prelude.{ℕ, ◌+◌, ◌^◌, Bool, true, false, cond, List, [], ◌∷◌, ◌++◌, map, ltb, get_or, take, set, replicate, Option, Some, None}
 use Rattle.paper.specs.Fields.{within, among, number}
 use Rattle.typed.specs.declared.roster.Progress.{Progress}
 use Rattle.typed.specs.declared.roster.Roster.{Roster}
-use Rattle.typed.specs.declared.roster.Which.{Which}
-use Rattle.typed.specs.declared.roster.Which.TheVariants.{Word, Nothing}
 use Rattle.typed.specs.declared.roster.Wrong.{Wrong}
 use Rattle.typed.specs.Words.{grown}
 
@@ -43,13 +41,13 @@ wrong_among before (word ∷ words) = cond (within 1 499 (number word)) (wrong_a
 unfoldable pub wrong_typed : List ℕ → WrongWord
 wrong_typed text = wrong_among 0 (words_from [] text)
 
--- what the code says of it
-unfoldable pub told_by : Which → List ℕ → WrongWord
-told_by Nothing bytes = no_word
-told_by (Word place size) bytes = word_at place (take size bytes)
+-- what the code says of it: its first bytes are those kept
+unfoldable pub shown_in : Wrong → List ℕ
+shown_in w = take w.kept w.bytes
 
-abbrev pub told_in : Wrong → WrongWord
-told_in w = told_by w.word w.bytes
+abbrev pub told_in : Option Wrong → WrongWord
+told_in None = no_word
+told_in (Some w) = word_at w.place (shown_in w)
 
 -- ---- how it is read, byte by byte
 
@@ -123,9 +121,8 @@ unfoldable pub entities_in : Roster → List ℕ
 entities_in r = numbers_marked 0 r.listed
 
 -- the first wrong word, where there is one
-unfoldable pub which_if : Bool → Progress → Which
-which_if false p = Nothing
-which_if true p = Word p.place (cond (ltb p.kept 64) p.kept 64)
+abbrev pub wrong_kept : Roster → Wrong
+wrong_kept r = record { place = r.progress.place; kept = r.progress.kept; bytes = r.bytes }
 
-unfoldable pub wrong_in : Roster → Wrong
-wrong_in r = record { word = which_if (wrong_noted r.listed) r.progress; bytes = r.bytes }
+unfoldable pub wrong_in : Roster → Option Wrong
+wrong_in r = cond (wrong_noted r.listed) (Some (wrong_kept r)) None

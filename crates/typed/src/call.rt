@@ -18,19 +18,11 @@ pub enum Job {
     Reasons,
 }
 
-// A job to be done in a session of a currency; or a company's file to be made into a tray; or nothing that there is.
+// A job to be done in a session of a currency; or a company's file to be made into a tray.
 #[derive(Clone, Copy)]
 pub enum Asked {
     To(Job, Currency),
     Company(Currency),
-    Nothing,
-}
-
-// What a word for a currency says.
-#[derive(Clone, Copy)]
-enum Money {
-    In(Currency),
-    Unknown,
 }
 
 // Which word stands where. The program's own name is at 0. The launcher puts three before what was typed: where it listens, how a file is named while it is
@@ -70,46 +62,45 @@ impl Word {
     pub const OUT: usize = 8;
 }
 
-fn named(word: &[u8]) -> Money
+// Tried as a `match` on b"pesos" and b"dollars": it leaves a goal for each byte of the words, and the deepest do not close; so also below.
+#[tactic(auto, unfolding(crate::specs::Asking::money_typed))]
+fn named(word: &[u8]) -> Option<Currency>
     ensures { result ≡ money_typed word.now }
 {
     if words::is(word, b"pesos") {
-        return Money::In(Currency::Pesos);
+        return Some(Currency::Pesos);
     }
     if words::is(word, b"dollars") {
-        return Money::In(Currency::Dollars);
+        return Some(Currency::Dollars);
     }
-    Money::Unknown
+    None
 }
 
 // The job, where so many words are its, in the currency that the word names.
-fn asked_in(currency: &[u8], job: Job, fits: bool) -> Asked
+#[tactic(auto, unfolding(crate::specs::Asking::asked_in))]
+fn asked_in(currency: &[u8], job: Job, fits: bool) -> Option<Asked>
     ensures { result ≡ asked_in currency.now job fits }
 {
     if !fits {
-        return Asked::Nothing;
+        return None;
     }
-    match named(currency) {
-        Money::In(known) => Asked::To(job, known),
-        Money::Unknown => Asked::Nothing,
-    }
+    Some(Asked::To(job, named(currency)?))
 }
 
 // A tray of a company's file, where so many words are its, in the currency that the word names.
-fn asked_to_make(currency: &[u8], fits: bool) -> Asked
+#[tactic(auto, unfolding(crate::specs::Asking::asked_to_make))]
+fn asked_to_make(currency: &[u8], fits: bool) -> Option<Asked>
     ensures { result ≡ asked_to_make currency.now fits }
 {
     if !fits {
-        return Asked::Nothing;
+        return None;
     }
-    match named(currency) {
-        Money::In(known) => Asked::Company(known),
-        Money::Unknown => Asked::Nothing,
-    }
+    Some(Asked::Company(named(currency)?))
 }
 
 // The jobs that write files.
-fn asked_to_write(job: &[u8], currency: &[u8], count: usize) -> Asked
+#[tactic(auto, unfolding(crate::specs::Asking::asked_to_write))]
+fn asked_to_write(job: &[u8], currency: &[u8], count: usize) -> Option<Asked>
     ensures { result ≡ asked_to_write job.now currency.now count }
 {
     if words::is(job, b"extract") {
@@ -124,11 +115,12 @@ fn asked_to_write(job: &[u8], currency: &[u8], count: usize) -> Asked
     if words::is(job, b"share") {
         return asked_in(currency, Job::Share, count == Word::SECOND + 1);
     }
-    Asked::Nothing
+    None
 }
 
 // The jobs of a member's desk, on an extract; or another.
-fn asked_of_extract(job: &[u8], currency: &[u8], count: usize) -> Asked
+#[tactic(auto, unfolding(crate::specs::Asking::asked_of_extract))]
+fn asked_of_extract(job: &[u8], currency: &[u8], count: usize) -> Option<Asked>
     ensures { result ≡ asked_of_extract job.now currency.now count }
 {
     if words::is(job, b"receive") {
@@ -144,7 +136,8 @@ fn asked_of_extract(job: &[u8], currency: &[u8], count: usize) -> Asked
 }
 
 // What the words for the job and the currency ask for, in a session, in a call of so many words.
-fn asked_in_session(job: &[u8], currency: &[u8], count: usize) -> Asked
+#[tactic(auto, unfolding(crate::specs::Asking::asked_in_session))]
+fn asked_in_session(job: &[u8], currency: &[u8], count: usize) -> Option<Asked>
     ensures { result ≡ asked_in_session job.now currency.now count }
 {
     if words::is(job, b"read") {
@@ -157,7 +150,8 @@ fn asked_in_session(job: &[u8], currency: &[u8], count: usize) -> Asked
 }
 
 // The same of any job; the word behind its own is DATE, or, where no session is opened, CURRENCY.
-pub fn asked_for(job: &[u8], next: &[u8], currency: &[u8], count: usize) -> Asked
+#[tactic(auto, unfolding(crate::specs::Asking::asked_for))]
+pub fn asked_for(job: &[u8], next: &[u8], currency: &[u8], count: usize) -> Option<Asked>
     ensures { result ≡ asked_for job.now next.now currency.now count }
 {
     if words::is(job, b"company") {

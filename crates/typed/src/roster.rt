@@ -1,8 +1,8 @@
 // A roster as text: entity numbers separated by blanks or line ends. A text of any length is read piece by piece.
 ghost use Rattle.std.specs.Prelude.{◌≡◌, length};
 ghost use Rattle.paper.specs.Buffers.{over};
-ghost use Rattle.typed.specs.Rosters.{separator, begun, noted, marks_after, progress_after, closed, with_if, read_on, entities_in};
-ghost use Rattle.typed.specs.Rosters.{roster_of, next_place, begun_if, bytes_with, kept_with, progress_with, which_if, wrong_in};
+ghost use Rattle.typed.specs.Rosters.{separator, begun, noted, wrong_noted, progress_after, closed, grown_if, with_if, read_on, entities_in};
+ghost use Rattle.typed.specs.Rosters.{next_place, begun_if, bytes_with, kept_with, progress_with, shown_in, wrong_in};
 ghost use Rattle.typed.specs.Texts.{roster_in, text_begun, text_on};
 
 use crate::words;
@@ -31,31 +31,23 @@ pub struct Roster {
     progress: Progress,
 }
 
-// A word that is no entity's number: its place, and how many bytes of it are told.
-#[derive(Clone, Copy)]
-pub enum Which {
-    Word(u64, usize),
-    Nothing,
-}
-
-// The same, with these bytes in front.
+// A word that is no entity's number: its place, and its first bytes, of which so many are kept in front.
 #[derive(Clone, Copy)]
 pub struct Wrong {
-    pub word: Which,
-    pub bytes: [u8; Roster::SHOWN],
+    pub place: u64,
+    kept: usize,
+    bytes: [u8; Roster::SHOWN],
 }
 
 // Blanks and line ends; tabs count as blanks.
 fn separator(b: u8) -> bool
     ensures { result ≡ separator b }
 {
-    match b {
-        b'\t' | b'\n' | b'\r' | b' ' => true,
-        _ => false,
-    }
+    matches!(b, b'\t' | b'\n' | b'\r' | b' ')
 }
 
 // One mark is set where it stands: a copy of all of them for each word is what takes time.
+#[tactic(auto, unfolding(crate::specs::Rosters::noted))]
 fn note(listed: &mut [bool; Session::ROSTER], number: u64)
     ensures { listed.new ≡ noted listed.old number }
 {
@@ -68,6 +60,7 @@ fn note(listed: &mut [bool; Session::ROSTER], number: u64)
 }
 
 // The next word's place. No text has so many words that the count stops: no source hands over so many bytes.
+#[tactic(auto, unfolding(crate::specs::Rosters::next_place))]
 fn next_place(place: u64) -> u64
     ensures { result ≡ next_place place }
 {
@@ -77,23 +70,31 @@ fn next_place(place: u64) -> u64
     place
 }
 
-impl Progress {
-    // A word ends, where there is one.
-    fn ended(self, listed: &mut [bool; Session::ROSTER]) -> Progress
-        ensures { (listed.new ≡ marks_after self listed.old) × (result ≡ progress_after self) }
+impl Wrong {
+    // Its first bytes.
+    #[tactic(auto, unfolding(crate::specs::Rosters::shown_in))]
+    pub fn shown(&self) -> &[u8]
+        ensures { result.now ≡ shown_in self.now }
     {
-        if self.word {
-            note(listed, self.number);
-        }
+        &self.bytes[..self.kept.min(Roster::SHOWN)]
+    }
+}
+
+impl Progress {
+    // No word is being read.
+    #[tactic(auto, unfolding(crate::specs::Rosters::progress_after))]
+    fn ended(self) -> Progress
+        ensures { result ≡ progress_after self }
+    {
         Progress {
             word: false,
             number: 0,
-            place: self.place,
-            kept: self.kept,
+            ..self
         }
     }
 
     // A word begins, where there is none.
+    #[tactic(auto, unfolding(crate::specs::Rosters::begun_if))]
     fn begun(self) -> Progress
         ensures { result ≡ begun_if self.word self }
     {
@@ -109,6 +110,7 @@ impl Progress {
     }
 
     // The byte is kept if it is among the first of its word. Hands back how many are kept then.
+    #[tactic(auto, unfolding(crate::specs::Rosters::bytes_with, crate::specs::Rosters::kept_with))]
     fn keep(self, b: u8, bytes: &mut [u8; Roster::SHOWN]) -> usize
         ensures { (bytes.new ≡ bytes_with self b bytes.old) × (result ≡ kept_with self) }
     {
@@ -121,57 +123,26 @@ impl Progress {
     }
 
     // The word goes on with a byte; so many of its bytes are kept then.
+    #[tactic(auto, unfolding(crate::specs::Rosters::progress_with))]
     fn grown(self, b: u8, kept: usize) -> Progress
         ensures { result ≡ progress_with self b kept }
     {
         Progress {
             word: true,
             number: words::grown(Session::LAST, self.number, b),
-            place: self.place,
             kept,
+            ..self
         }
-    }
-
-    fn with(
-        self,
-        b: u8,
-        listed: &mut [bool; Session::ROSTER],
-        bytes: &mut [u8; Roster::SHOWN],
-    ) -> Progress
-        ensures { roster_of listed.new bytes.new result
-            ≡ with_if (separator b) (roster_of listed.old bytes.old self) b }
-    {
-        if separator(b) {
-            return self.ended(listed);
-        }
-        if listed[0] {
-            return self.grown(b, self.kept);
-        }
-        let word = self.begun();
-        let kept = word.keep(b, bytes);
-        word.grown(b, kept)
-    }
-
-    // The first wrong word, where there is one.
-    fn which(self, wrong: bool) -> Which
-        ensures { result ≡ which_if wrong self }
-    {
-        if !wrong {
-            return Which::Nothing;
-        }
-        if self.kept < Roster::SHOWN {
-            return Which::Word(self.place, self.kept);
-        }
-        Which::Word(self.place, Roster::SHOWN)
     }
 }
 
 impl Roster {
     // Bytes of a word that are told, at most.
-    pub const SHOWN: usize = 64;
+    const SHOWN: usize = 64;
     // Places are counted up to here.
     const MOST: u64 = 1 << 63;
 
+    #[tactic(auto, unfolding(crate::specs::Rosters::begun))]
     fn begun() -> Roster
         ensures { result ≡ begun }
     {
@@ -188,64 +159,88 @@ impl Roster {
         }
     }
 
+    // A word ends, where there is one.
+    #[tactic(auto, unfolding(crate::specs::Rosters::closed, crate::specs::Rosters::marks_after))]
+    fn end(&mut self)
+        ensures { self.new ≡ closed self.old }
+    {
+        if self.progress.word {
+            note(&mut self.listed, self.progress.number);
+        }
+        self.progress = self.progress.ended();
+    }
+
+    // A word goes on, or begins.
+    #[tactic(auto, unfolding(crate::specs::Rosters::grown_if))]
+    fn grow(&mut self, b: u8)
+        ensures { self.new ≡ grown_if (wrong_noted self.old.listed) self.old b }
+    {
+        let before = self.progress;
+        if self.listed[0] {
+            self.progress = before.grown(b, before.kept);
+            return;
+        }
+        let word = before.begun();
+        let kept = word.keep(b, &mut self.bytes);
+        self.progress = word.grown(b, kept);
+    }
+
+    #[tactic(auto, unfolding(crate::specs::Rosters::with_if))]
+    fn take(&mut self, b: u8)
+        ensures { self.new ≡ with_if (separator b) self.old b }
+    {
+        if separator(b) {
+            self.end();
+        } else {
+            self.grow(b);
+        }
+    }
+
     // A word ends with the text too.
-    pub fn closed(self) -> Roster
+    pub fn closed(mut self) -> Roster
         ensures { result ≡ closed self }
     {
-        let mut listed = self.listed;
-        let bytes = self.bytes;
-        let reached = self.progress;
-        let progress = reached.ended(&mut listed);
-        Roster {
-            listed,
-            bytes,
-            progress,
-        }
+        self.end();
+        self
     }
 
     // The next piece of the text.
-    fn read(self, piece: &[u8]) -> Roster
+    fn read(mut self, piece: &[u8]) -> Roster
         ensures { result ≡ read_on self piece.now }
     {
-        let mut listed = self.listed;
-        let mut bytes = self.bytes;
-        let mut progress = self.progress;
-        let mut i: usize = 0;
-        while i < piece.len() {
-            progress = progress.with(piece[i], &mut listed, &mut bytes);
-            i += 1;
+        for b in piece {
+            self.take(*b);
         }
-        Roster {
-            listed,
-            bytes,
-            progress,
-        }
+        self
     }
 
     // The first word that is no entity's number.
-    pub fn wrong(self) -> Wrong
+    #[tactic(auto, unfolding(crate::specs::Rosters::wrong_in))]
+    pub fn wrong(self) -> Option<Wrong>
         ensures { result ≡ wrong_in self }
     {
-        let progress = self.progress;
-        let word = progress.which(self.listed[0]);
-        let bytes = self.bytes;
-        Wrong { word, bytes }
+        if !self.listed[0] {
+            return None;
+        }
+        Some(Wrong {
+            place: self.progress.place,
+            kept: self.progress.kept,
+            bytes: self.bytes,
+        })
     }
 
-    // The numbers listed, ascending, and how many.
+    // The numbers listed, ascending, and how many. They go into what the caller lends, so a length goes with it.
     pub fn entities(self, out: &mut [u64; Session::ROSTER]) -> usize
         ensures { (result ≡ length (entities_in self)) × (out.new ≡ over (entities_in self) out.old) }
     {
         // as a slice, since its length is then known
         let places = &mut out[..];
-        let mut count: usize = 0;
-        let mut e: usize = 0;
-        while e < Session::ROSTER {
-            if self.listed[e] {
+        let mut count = 0;
+        for (e, listed) in self.listed.iter().enumerate() {
+            if *listed {
                 places[count] = e as u64;
                 count += 1;
             }
-            e += 1;
         }
         count
     }
@@ -260,6 +255,7 @@ pub struct Text {
 
 impl Text {
     // Watched at the same place as another, from its first byte.
+    #[tactic(auto, unfolding(crate::specs::Texts::text_begun))]
     pub fn begun(watch: Watch) -> Text
         ensures { result ≡ text_begun watch }
     {
@@ -270,16 +266,13 @@ impl Text {
     }
 
     // The next piece.
+    #[tactic(auto, unfolding(crate::specs::Texts::text_on))]
     pub fn read(self, piece: &[u8]) -> Text
         ensures { result ≡ text_on self piece.now }
     {
-        let roster = self.roster;
-        let watch = self.watch;
-        let after = roster.read(piece);
-        let watched = watch.on(piece);
         Text {
-            roster: after,
-            watch: watched,
+            roster: self.roster.read(piece),
+            watch: self.watch.on(piece),
         }
     }
 

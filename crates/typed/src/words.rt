@@ -3,7 +3,7 @@ ghost use Rattle.std.specs.Prelude.{◌≡◌, ◌+◌, ◌*◌, ◌≤◌, ◌<
 ghost use Rattle.paper.specs.Fields.{same};
 ghost use Rattle.typed.specs.Words.{date_typed, grown, grown_by, entity_typed, place_typed};
 
-use characters::{byte, number, text};
+use characters::{byte, number};
 use desk::Session;
 
 // AAMMDD
@@ -19,13 +19,11 @@ const RECORDS: usize = Session::FILE_LIMIT / Session::RECORD;
 pub fn is(word: &[u8], name: &[u8]) -> bool
     ensures { result ≡ same word.now name.now }
 {
-    if word.len() == 0 {
-        return name.len() == 0;
-    }
-    text::reads(word, 1, word.len(), name)
+    word == name
 }
 
-// What is not six digits is no date.
+// What is not six digits is no date; the opening takes a number for a date, so none is a number too.
+#[tactic(auto, unfolding(crate::specs::Words::date_typed))]
 pub fn date(word: &[u8]) -> u64
     ensures { result ≡ date_typed word.now }
 {
@@ -36,9 +34,11 @@ pub fn date(word: &[u8]) -> u64
 }
 
 // The number after one more character of its word, as far as the most that is asked for. What is beyond stays so, however long the word.
+#[tactic(auto, unfolding(crate::specs::Words::grown))]
 pub fn grown(most: u64, n: u64, b: u8) -> u64
     requires { most < 10000 }
-    ensures { (result ≡ grown most n b) × (result ≤ most * 10 + 9) }
+    ensures value { result ≡ grown most n b }
+    ensures bound { result ≤ most * 10 + 9 }
 {
     if !byte::digit(b) {
         return most + 1;
@@ -50,30 +50,27 @@ pub fn grown(most: u64, n: u64, b: u8) -> u64
 }
 
 // The number after the whole word.
+#[tactic(auto, using(crate::proofs::Steps::folded))]
 fn grown_by(most: u64, word: &[u8]) -> u64
     requires { most < 10000 }
     ensures { result ≡ grown_by most 0 word.now }
 {
-    let mut n: u64 = 0;
-    let mut i: usize = 0;
-    while i < word.len() {
-        n = grown(most, n, word[i]);
-        i += 1;
-    }
-    n
+    word.iter().fold(0, |n, b| grown(most, n, *b))
 }
 
+#[tactic(auto, unfolding(crate::specs::Words::entity_typed))]
 pub fn entity(word: &[u8]) -> u64
     ensures { result ≡ entity_typed word.now }
 {
     grown_by(Session::LAST, word)
 }
 
-// The place of a record: what is no number is past the end of every file.
+// The place of a record: what is no number is past the end of every file, where the desk answers of itself that there is no such record.
+#[tactic(auto, unfolding(crate::specs::Words::place_typed))]
 pub fn place(word: &[u8]) -> usize
     ensures { result ≡ place_typed word.now }
 {
-    if word.len() == 0 {
+    if word.is_empty() {
         return RECORDS;
     }
     grown_by(RECORDS as u64 - 1, word) as usize

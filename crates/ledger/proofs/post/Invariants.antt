@@ -1,4 +1,4 @@
-use Rattle.std.proofs.Common.{List, ℕ, ◌*◌, ◌+◌, ◌-◌, ◌≡◌, ◌≤◌}
+use Rattle.std.proofs.Common.{List, ℕ, ◌*◌, ◌+◌, ◌≡◌}
 use Rattle.paper.specs.declared.ledger.Cell.{Cell}
 use Rattle.paper.specs.Demands.{session_sides}
 use Rattle.ledger.proofs.Touches.{AllTouched}
@@ -6,13 +6,9 @@ use Rattle.ledger.proofs.Walk.{from}
 use Rattle.ledger.proofs.post.Given as goal
 
 -- the records before this place are posted, and have touched each cell at most twice
-pub record Progress (file : List ℕ) (records : ℕ) (cells after : List Cell) (place : ℕ) : Type 0 where
-  pub within : place ≤ records
+pub record Progress (file : List ℕ) (cells after : List Cell) (place : ℕ) : Type 0 where
   pub touched : AllTouched (session_sides + 2 * place) after
   pub left : from file 0 cells ≡ from file place after
 
 abbrev pub invariant-loop-place : goal.invariant-loop-place
-invariant-loop-place l = Progress l.file l.records l.initial.after l.after l.place
-
-abbrev pub decreases-loop-place : goal.decreases-loop-place
-decreases-loop-place l = l.records - l.place
+invariant-loop-place l = Progress l.file l.initial.cells l.cells l.place

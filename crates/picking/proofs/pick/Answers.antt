@@ -1,11 +1,11 @@
 use Rattle.std.proofs.Common.{arith, rules, ◌∙◌}
 use Rattle.paper.proofs.Accepted.{accepted_facts}
 use Rattle.picking.proofs.Rising.{notes_ordered, in_hand_fits}
-use Rattle.picking.proofs.Passing.{begun, turn, ended}
+use Rattle.picking.proofs.Passing.{begun, turn}
 use Rattle.picking.proofs.pick.Goals as goal
 
 pub loop-place-init : goal.loop-place-init
-loop-place-init c = record { passed = omega arith; long = search rules; noted = begun _ _ _ }
+loop-place-init c = record { long = search rules; noted = begun _ _ _ }
 
 pub step-picking-requires : goal.step-picking-requires
 step-picking-requires c =
@@ -15,7 +15,4 @@ step-picking-requires c =
 
 pub loop-place-preserved : goal.loop-place-preserved
 loop-place-preserved c =
-    record { passed = omega (arith, c.loop-place-test.true); long = c.loop-place.invariant.long; noted = turn _ _ _ c.loop-place.invariant.noted c.step-picking.ensures }
-
-pub returns : goal.returns
-returns c = ended _ _ _ c.loop-place.invariant.noted (omega (arith, c.loop-place.invariant.passed, c.loop-place-test.false))
+    record { long = c.loop-place.invariant.long; noted = turn _ _ _ c.loop-place.invariant.noted c.step-picking.ensures }

@@ -1,5 +1,4 @@
 use Rattle.picking.proofs.Moving.{header_noted, individual_noted, other_noted, additional_noted, additional_left, nothing_noted_lem}
-use borrow.Enum.Refused.{opened}
 use Rattle.picking.proofs.step.Goals as goal
 
 pub returns-then-is_to : goal.returns-then-is_to
@@ -24,4 +23,4 @@ returns-else-picking c =
 
 pub returns-in_default : goal.returns-in_default
 returns-in_default c =
-    nothing_noted_lem _ _ _ _ _ c.record_at-rec.ensures.0 c.kind.ensures (opened c.in_default.in_default-own.keys4)
+    nothing_noted_lem _ _ _ _ _ c.record_at-rec.ensures.0 c.kind.ensures c.in_default.not-BatchHeader c.in_default.not-Individual c.in_default.not-Additional

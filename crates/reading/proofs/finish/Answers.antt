@@ -14,7 +14,7 @@ returns-in-Ended c = (rw c.in-Ended.is, refl)
 pub returns-in_default : goal.returns-in_default
 unfolding reading_says Carries finish
 returns-in_default c =
-    let a = c.args in (
+    let a = c.args in rw c.at.ensures (
       in_befores (refused 17 a.records) (λ (b : Before). finish b a.records) (0 ∷ 1 ∷ 2 ∷ 3 ∷ 4 ∷ []) (refl, (refl, (refl, (refl, (refl, tt)))))
           a.before (opened c.in_default.in_default-own.keys2),
       tt,

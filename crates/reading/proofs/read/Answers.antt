@@ -1,4 +1,5 @@
-use Rattle.std.proofs.Common.{ap, arith, length, refl, subst, sym, true, ◌/◌, ◌<◌, ◌∙◌, ◌≡◌}
+use Rattle.std.proofs.lemmas.Result.{err_from_is_err_and}
+use Rattle.std.proofs.Common.{ap, arith, length, refl, sym, true, ◌/◌, ◌<◌, ◌∙◌, ◌≡◌}
 use Rattle.paper.specs.Reading.{length_good, finish}
 use Rattle.paper.proofs.Tests.{not_both}
 use Rattle.state.proofs.Numbering.{none_known}
@@ -9,12 +10,12 @@ use Rattle.reading.specs.Said.{reading_says, Carries}
 use Rattle.reading.specs.Taken.{Reaches, Runs, Further}
 use Rattle.reading.proofs.Walk.{done, at_start, short, too_long, read_through}
 use Rattle.reading.proofs.read.Goals as goal
-use Rattle.reading.proofs.read.Goals.{Else-not-length_good, In-Reached}
+use Rattle.reading.proofs.read.Goals.{Else-not-length_good, In_ok-at}
 
 pub returns-then-not-length_good : goal.returns-then-not-length_good
 unfolding reading_says Carries
 returns-then-not-length_good c =
-    (too_long _ _ (sym c.length_good.ensures ∙ c.if-not-length_good.true), tt)
+    rw c.at.ensures (too_long _ _ (sym c.length_good.ensures ∙ c.if-not-length_good.true), tt)
 
 -- the length was good
 fit : (c : Else-not-length_good) → length_good (length c.args.file.now) ≡ true
@@ -36,7 +37,7 @@ loop-place-init c =
         clean = c.clean_front-front.ensures;
       };
       framed = λ h i. refl;
-      left = at_start (under a.terms a.roster.now) a.file.now _ l;
+      left = at_start (under a.terms) a.file.now _ l;
     }
 
 pub onward-requires : goal.onward-requires
@@ -44,35 +45,32 @@ onward-requires c =
     let p = c.loop-place.invariant in
     record { underway = p.underway; place_lt_records = (c.loop-place-test.true, p.framed c.loop-place-test.true) }
 
-pub returns-in-Stopped : goal.returns-in-Stopped
+pub returns-in_err-at : goal.returns-in_err-at
 unfolding reading_says Carries Runs
-returns-in-Stopped c =
-    let h = rw c.in-Stopped.is at c.onward.ensures.0 in
-    (read_through _ _ c.loop-place.invariant.fit (c.loop-place.invariant.left ∙ h), tt)
+returns-in_err-at c =
+    let p = err_from_is_err_and c.from_residual.result c.from_residual.ensures.1 in
+    rw (p.1, p.2) (read_through _ _ c.loop-place.invariant.fit (c.loop-place.invariant.left ∙ c.in_err-at.ensures.0), tt)
 
 -- a run of records that reached a place
-module _ (c : In-Reached) where
-  reached : Reaches (under c.args.terms c.args.roster.now) c.args.file.now (length c.args.file.now / 94)
-      c.loop-place.place c.loop-place.state c.in-Reached.at c.in-Reached.after
+module _ (c : In_ok-at) where
+  reached : Reaches (under c.args.terms) c.args.file.now (length c.args.file.now / 94)
+      c.loop-place.place c.loop-place.state c.in_ok-at.at c.in_ok-at.after
   unfolding Runs
-  reached =
-      subst
-      (Runs (under c.args.terms c.args.roster.now) c.args.file.now (length c.args.file.now / 94) c.loop-place.place c.loop-place.state)
-      c.in-Reached.is c.onward.ensures.0
+  reached = c.in_ok-at.ensures.0
 
-  gone : c.loop-place.place < c.in-Reached.at
+  gone : c.loop-place.place < c.in_ok-at.at
   unfolding Further
-  gone = subst (Further c.loop-place.place) c.in-Reached.is c.onward.ensures.1
+  gone = c.in_ok-at.ensures.1
 
 pub loop-place-smaller : goal.loop-place-smaller
 loop-place-smaller c =
-    let r = reached c in
-    omega (arith, gone c, r.within)
+    let r = reached (goal.at.loop-place-smaller c).In_ok-at in
+    omega (arith, gone (goal.at.loop-place-smaller c).In_ok-at, r.within)
 
 pub loop-place-preserved : goal.loop-place-preserved
 loop-place-preserved c =
     let p = c.loop-place.invariant in
-    let r = reached c in
+    let r = reached (goal.at.loop-place-preserved c).In_ok-at in
     record {
       fit = p.fit;
       underway = record { all = refl; within = r.within; short = p.underway.short; standing = r.standing; clean = p.underway.clean };

@@ -14,7 +14,7 @@ pub record Progress (rules : ReadingRules) (file : List ℕ) (records front plac
   pub left : reading_from rules start (parts 94 records file) ≡ on_from rules file records place st
 
 abbrev pub invariant-loop-place : goal.invariant-loop-place
-invariant-loop-place l = Progress (under l.terms l.roster) l.file l.records l.front l.place l.state
+invariant-loop-place l = Progress (under l.terms) l.file l.records l.front l.place l.state
 
 abbrev pub decreases-loop-place : goal.decreases-loop-place
 decreases-loop-place l = l.records - l.place

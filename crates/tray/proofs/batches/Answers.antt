@@ -1,22 +1,12 @@
-use Rattle.std.proofs.Common.{ap, arith, cond, ◌+◌, ◌∙◌, ◌≡◌}
+use Rattle.std.proofs.Common.{ap, cond, ◌+◌, ◌∙◌, ◌≡◌}
 use Rattle.paper.specs.Kinds.{opens_batch, kind_of}
-use Rattle.tray.proofs.Passing.{none_counted, one_counted, all_counted}
+use Rattle.tray.proofs.Passing.{one_counted}
 use Rattle.tray.proofs.batches.Goals as goal
 use Rattle.tray.proofs.batches.Goals.{then-opens, else-opens}
-
-pub overflow_add-count : goal.overflow_add-count
-overflow_add-count c = omega (arith, c.loop-place.invariant.1.fewer)
 
 pub loop-place-preserved : goal.loop-place-preserved
 loop-place-preserved c =
     let e = c.opens.ensures ∙ ap (λ b. opens_batch (kind_of b)) c.body_at.ensures.0 in
     let n : c.if-opens.count ≡ cond c.opens.result (c.loop-place.count + 1) c.loop-place.count =
     elim c.if-opens.branch [ then-opens w ↦ rw w.if-opens.true w.count-is | else-opens w ↦ rw w.if-opens.false w.count-is ] in
-    (omega arith, one_counted _ c.loop-place.invariant.1 c.loop-place-test.true e n)
-
-pub returns : goal.returns
-returns c =
-    (all_counted _ c.loop-place.invariant.1 c.loop-place-test.false, omega (arith, c.loop-place.invariant.0, c.loop-place.invariant.1.fewer))
-
-pub loop-place-init : goal.loop-place-init
-loop-place-init c = (omega arith, none_counted _)
+    one_counted _ c.loop-place.invariant c.loop-place-test.true e n

@@ -1,4 +1,4 @@
-use Rattle.std.proofs.Common.{refl, set, true, ◌≡◌}
+use Rattle.std.proofs.Common.{set, true, ◌≡◌}
 use Rattle.paper.specs.Answers.{said}
 use Rattle.paper.specs.Sessions.{answer_to}
 use Rattle.paper.proofs.Accepted.{accepted_facts}
@@ -18,10 +18,10 @@ returns-in_default c =
     presented_so c.args.self c.args.file.now c.requires (record { answer = c.present-answer.result; session = c.args.self })
     (stays (standing c.args.self) c.args.file.now c.present-answer.result (answers (goal.at.returns-in_default c).After-present-answer) c.in_default.is)
 
-pub post-session-requires : goal.post-session-requires
-post-session-requires c =
-    let r = read_so (standing c.args.self) c.args.file.now c.present-answer.result (answers (goal.at.post-session-requires c).After-present-answer) c.in-Accepted.is in
-    record { records_value = (refl, (accepted_facts (rules_of c.args.self) c.args.file.now r).short); by_index = room c.requires }
+pub post-requires : goal.post-requires
+post-requires c =
+    let r = read_so (standing c.args.self) c.args.file.now c.present-answer.result (answers (goal.at.post-requires c).After-present-answer) c.in-Accepted.is in
+    record { file_len_bound = (accepted_facts (rules_of c.args.self) c.args.file.now r).short; by_index = room c.requires }
 
 pub returns : goal.returns
 returns c =
@@ -29,6 +29,6 @@ returns c =
     presented_so s c.args.file.now c.requires
     (record {
       answer = c.present-answer.result;
-      session = record { date = s.date; currency = s.currency; roster = s.roster; cells = c.post-session.result; used = set s.used c.key-key.result true };
+      session = record { date = s.date; currency = s.currency; roster = s.roster; cells = c.post.new.cells; used = set s.used c.key-key.result true };
     })
-    (posts (standing s) c.args.file.now c.present-answer.result (answers (goal.at.returns c).After-present-answer) c.in-Accepted.is c.key-key.ensures.0 c.post-session.ensures)
+    (posts (standing s) c.args.file.now c.present-answer.result (answers (goal.at.returns c).After-present-answer) c.in-Accepted.is c.key-key.ensures.0 c.post.ensures)

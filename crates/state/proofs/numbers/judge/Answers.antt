@@ -1,4 +1,4 @@
-use Rattle.std.proofs.Common.{eq-eqb, le-ltb, lt-ltb, ne_eqb, ◌∙◌}
+use Rattle.std.proofs.Common.{eq-eqb, le-ltb, lt-ltb, ne_eqb, refl, ◌∙◌}
 use Rattle.state.specs.States.{NumberSays}
 use Rattle.state.proofs.Numbering.{new_above, by_above, by_look}
 use Rattle.state.proofs.numbers.judge.Goals as goal
@@ -11,7 +11,7 @@ returns-then-number-highest c =
 pub returns-then-fresh-place : goal.returns-then-fresh-place
 unfolding NumberSays
 returns-then-fresh-place c =
-    c.fresh-fresh.ensures.here ∙ eq-eqb _ _ c.if-fresh-place.true
+    (c.fresh-fresh.ensures.here ∙ eq-eqb _ _ c.if-fresh-place.true, refl)
 
 pub returns : goal.returns
 unfolding NumberSays

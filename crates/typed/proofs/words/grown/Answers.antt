@@ -1,10 +1,7 @@
-use Rattle.std.proofs.Common.{arith, le-leb, sym, true, ◌∙◌, ◌≡◌}
-use borrow.Author.Tests.{lt-leb}
+use Rattle.std.proofs.Common.{arith, sym, true, ◌∙◌, ◌≡◌}
 use Rattle.paper.specs.Fields.{digit}
 use Rattle.paper.proofs.Tests.{T_of}
 use Rattle.paper.proofs.Digits.{digit_range}
-use Rattle.typed.specs.Words.{grown}
-use Rattle.typed.proofs.Numbers.{grown_bounded}
 use Rattle.typed.proofs.words.grown.Goals as goal
 use Rattle.typed.proofs.words.grown.Goals.{Else-not-digit}
 
@@ -12,24 +9,10 @@ is_digit : (c : Else-not-digit) → digit c.args.b ≡ true
 is_digit c =
     sym c.digit.ensures ∙ c.if-not-digit.false
 
-pub returns-then-not-digit : goal.returns-then-not-digit
-unfolding grown
-returns-then-not-digit c =
-    let s = c.args in
-    grown_bounded s.most s.n s.b (rw (sym c.digit.ensures ∙ c.if-not-digit.true))
-
-pub returns-then-most-n : goal.returns-then-most-n
-unfolding grown
-returns-then-most-n c =
-    let s = c.args in
-    grown_bounded s.most s.n s.b (rw (is_digit ((goal.at.returns-then-most-n c).Else-not-digit), lt-leb s.n s.most c.if-most-n.true))
-
 pub overflow_sub-result : goal.overflow_sub-result
 overflow_sub-result c =
     (digit_range _ (T_of (is_digit ((goal.at.overflow_sub-result c).Else-not-digit)))).0
 
-pub returns : goal.returns
-unfolding grown
-returns c =
-    let s = c.args in
-    grown_bounded s.most s.n s.b (rw (is_digit ((goal.at.returns c).Else-not-digit), le-leb s.n s.most c.if-most-n.false) (omega arith))
+pub returns-clause-bound : goal.returns-clause-bound
+returns-clause-bound c =
+    let r = digit_range _ (T_of (is_digit ((goal.at.returns-clause-bound c).Else-not-digit))) in omega arith

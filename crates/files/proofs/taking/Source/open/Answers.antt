@@ -1,21 +1,24 @@
-use Rattle.std.proofs.Common.{refl}
+use Rattle.std.proofs.Common.{refl, rules}
 use Rattle.watch.proofs.Watching.{fresh}
+use Rattle.files.specs.Sources.{Watched}
 use Rattle.files.proofs.Parts.{named, metered}
 use Rattle.files.proofs.taking.Source.open.Goals as goal
 
-pub returns-in-Err : goal.returns-in-Err
-returns-in-Err g c = named _ _ _ _ c.at.ensures c.on-name.ensures
+pub returns-in_err-file : goal.returns-in_err-file
+returns-in_err-file g c =
+    let n : Watched c.on-name.result c.args.path.now = named _ _ _ _ c.at.ensures c.on-name.ensures in search rules
 
-pub returns-in-Ok-meter : goal.returns-in-Ok-meter
-returns-in-Ok-meter g c =
+pub returns-in_err-meter : goal.returns-in_err-meter
+returns-in_err-meter g c =
+    let n : Watched c.on-name.result c.args.path.now = named _ _ _ _ c.at.ensures c.on-name.ensures in search rules
+
+pub returns : goal.returns
+returns g c =
     record {
       name = named _ _ _ _ c.at.ensures c.on-name.ensures;
-      descriptor = c.in-Ok.ensures;
-      meter = metered c.in-Ok-meter.meter _ c.in-Ok-meter.ensures c.in-Ok.ensures;
+      descriptor = search rules;
+      meter = metered c.in_ok-meter.meter _ (search rules) (search rules);
       total = refl;
-      watch = fresh c.at-in-Ok-meter.result _ c.at-in-Ok-meter.ensures;
+      watch = fresh c.at-2.result _ c.at-2.ensures;
       ended = refl;
     }
-
-pub returns-in-Err-meter : goal.returns-in-Err-meter
-returns-in-Err-meter g c = named _ _ _ _ c.at.ensures c.on-name.ensures

@@ -1,31 +1,28 @@
-use Rattle.std.proofs.Common.{arith, length, rules, ◌<◌, ◌≡◌}
+use Rattle.std.proofs.Common.{length, rules, ◌<◌, ◌≤◌}
 use Rattle.typed.specs.Rosters.{entities_in}
 use Rattle.typed.proofs.Steps.{put_none, put_turn, skip_turn, put_end}
 use Rattle.typed.proofs.roster.Roster.entities.Goals as goal
-use Rattle.typed.proofs.roster.Roster.entities.Goals.{After-places-1, then-self-e, else-self-e}
+use Rattle.typed.proofs.roster.Roster.entities.Goals.{then-listed, else-listed}
 
--- both arrays have 500 places
-long : (c : After-places-1) → (length c.args.self.listed ≡ 500) × (length c.args.out.now ≡ 500)
-long c = search rules
+pub loop-e-init : goal.loop-e-init
+loop-e-init c = put_none c.args.self.listed c.args.out.now
 
 pub loop-e-preserved : goal.loop-e-preserved
 loop-e-preserved c =
     let marks = c.args.self.listed in
     let before = c.args.out.now in
-    let k = long ((goal.at.loop-e-preserved c).After-places-1) in
-    let m : c.loop-e.e < length marks = omega (arith, c.loop-e-test.true) in
-    let r : c.loop-e.count < length before = omega (arith, c.loop-e-test.true, c.loop-e.invariant.0) in
-    elim c.if-self-e.branch [
-      | then-self-e w ↦ rw (w.places-is, w.count-is) (put_turn marks before c.loop-e.places c.loop-e.count c.loop-e.e c.loop-e.invariant m w.if-self-e.true r)
-      | else-self-e w ↦ rw (w.places-is, w.count-is) (skip_turn marks before c.loop-e.places c.loop-e.count c.loop-e.e c.loop-e.invariant m w.if-self-e.false)
+    let l = c.loop-e in
+    let here : l.e < length marks = search rules in
+    let room : l.count < length before = search (rules, l.invariant.0) in
+    elim c.if-listed.branch [
+      | then-listed w ↦ rw (w.places-is, w.count-is) (put_turn marks before l.places l.count l.e l.invariant here w.if-listed.true room)
+      | else-listed w ↦ rw (w.places-is, w.count-is) (skip_turn marks before l.places l.count l.e l.invariant here w.if-listed.false)
     ]
 
 pub returns : goal.returns
 unfolding entities_in
 returns c =
-    let s = c.args in
-    let k = long ((goal.at.returns c).After-places-1) in
-    put_end s.self.listed s.out.now c.loop-e.places c.loop-e.count c.loop-e.e c.loop-e.invariant (omega (arith, c.loop-e-test.false))
-
-pub loop-e-init : goal.loop-e-init
-loop-e-init c = put_none c.args.self.listed c.args.out.now
+    let marks = c.args.self.listed in
+    let l = c.loop-e in
+    let all : length marks ≤ l.e = search rules in
+    put_end marks c.args.out.now l.places l.count l.e l.invariant all

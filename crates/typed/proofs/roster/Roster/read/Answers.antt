@@ -1,21 +1,16 @@
-use Rattle.std.proofs.Common.{arith, refl}
-use Rattle.typed.specs.Rosters.{roster_of, read_on}
-use Rattle.typed.proofs.Steps.{pass_turn, pass_end}
+use Rattle.std.proofs.Common.{add-one, drop-cons, sym}
+use lib.ListN.{drop_of_length-le}
+use Rattle.typed.specs.Rosters.{read_on}
 use Rattle.typed.proofs.roster.Roster.read.Goals as goal
 
-pub loop-i-preserved : goal.loop-i-preserved
+pub loop-b-preserved : goal.loop-b-preserved
 unfolding read_on
-loop-i-preserved c =
-    let s = c.args in
-    let so_far = roster_of c.loop-i.listed c.loop-i.bytes c.loop-i.progress in
-    pass_turn _ read_on (λ r. refl) (λ r b bs. refl) s.piece.now s.self so_far c.loop-i.i c.loop-i.invariant c.loop-i-test.true c.with-progress.ensures
+loop-b-preserved c =
+    let next = drop-cons c.args.piece.now c.loop-b.b-index 0 c.loop-b-test.true in
+    rw (add-one, c.take.ensures) (rw next at c.loop-b.invariant)
 
 pub returns : goal.returns
 unfolding read_on
 returns c =
-    let s = c.args in
-    let so_far = roster_of c.loop-i.listed c.loop-i.bytes c.loop-i.progress in
-    pass_end _ read_on (λ r. refl) (λ r b bs. refl) s.piece.now s.self so_far c.loop-i.i c.loop-i.invariant c.loop-i-test.false
-
-pub loop-i-init : goal.loop-i-init
-loop-i-init c = (omega arith, refl)
+    let done = drop_of_length-le c.args.piece.now c.loop-b-test.false in
+    sym (rw done at c.loop-b.invariant)

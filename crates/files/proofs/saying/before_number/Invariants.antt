@@ -1,8 +1,0 @@
-use Rattle.std.proofs.Common.{length, ◌≤◌}
-use Rattle.files.proofs.saying.before_number.Given as goal
-
-abbrev pub invariant-loop-i : goal.invariant-loop-i
-invariant-loop-i l = l.i ≤ length l.said
-
-abbrev pub decreases-loop-i : goal.decreases-loop-i
-decreases-loop-i l = l.i
