@@ -8,7 +8,7 @@ ghost use Rattle.picking.specs.Places.{Passed};
 
 use batches::records;
 use field::place::Record;
-use paper::answer::{Fault, Output};
+use paper::answer::{Fault, Refusal};
 use paper::rules::Currency;
 use picking::Picked;
 
@@ -17,7 +17,12 @@ mod header;
 mod whole;
 
 // Of a file that the reading accepted. Nothing is written before the size is known.
-pub fn extract(currency: Currency, entity: u64, file: &[u8], out: &mut [u8]) -> Output
+pub fn extract(
+    currency: Currency,
+    entity: u64,
+    file: &[u8],
+    out: &mut [u8],
+) -> Result<usize, Refusal>
     requires entity_bound { entity ≤ 499 }
     requires passed { Passed file.now }
     ensures { told result out.new
@@ -28,8 +33,8 @@ pub fn extract(currency: Currency, entity: u64, file: &[u8], out: &mut [u8]) -> 
     let count = picked.count;
     let size = (count + picked.batches + records::FRAME) * Record::LENGTH;
     if out.len() < size {
-        return Output::Refused(Fault::Room, 0);
+        return Err(Fault::Room.at(0));
     }
     whole::write(out, currency, entity, file, &places[0..count]);
-    Output::Accepted(size)
+    Ok(size)
 }

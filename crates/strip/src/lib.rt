@@ -7,7 +7,7 @@ ghost use Rattle.paper.specs.Trays.{strip};
 
 use field::place;
 use field::place::Record;
-use paper::answer::{Fault, Output};
+use paper::answer::{Fault, Refusal};
 
 mod marks;
 
@@ -39,15 +39,15 @@ fn write(out: &mut [u8], file: &[u8])
 }
 
 // Of a file that is not too long. Nothing is written before the size is known.
-pub fn strip(file: &[u8], out: &mut [u8]) -> Output
+pub fn strip(file: &[u8], out: &mut [u8]) -> Result<usize, Refusal>
     requires { length file.now ≤ 940000 }
     ensures { told result out.new
         ≡ written (room_for (strip file.now) out.old) (strip file.now) out.old }
 {
     let size = size(file);
     if out.len() < size {
-        return Output::Refused(Fault::Room, 0);
+        return Err(Fault::Room.at(0));
     }
     write(out, file);
-    Output::Accepted(size)
+    Ok(size)
 }

@@ -12,7 +12,7 @@ few c =
 
 pub returns-then-out-size : goal.returns-then-out-size
 returns-then-out-size c =
-    no_room _ _ (size_known c.requires.passed c.pick-picked.ensures c.args.currency) c.if-out-size.true
+    rw c.at.ensures (no_room _ _ (size_known c.requires.passed c.pick-picked.ensures c.args.currency) c.if-out-size.true)
 
 pub slice_bounds-write-end : goal.slice_bounds-write-end
 slice_bounds-write-end c =

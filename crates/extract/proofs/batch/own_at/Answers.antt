@@ -3,12 +3,6 @@ use Rattle.batches.proofs.Own.{own_there, none_there}
 use Rattle.picking.proofs.Chosen.{length_chosen, at_index}
 use Rattle.extract.proofs.batch.own_at.Goals as goal
 
-pub overflow_cast-place : goal.overflow_cast-place
-overflow_cast-place c = omega (arith, c.requires.1 c.args.i, c.requires.0)
-
-pub record_at-requires : goal.record_at-requires
-record_at-requires c = (c.requires.0, c.requires.1 c.args.i)
-
 pub returns-then-i-places : goal.returns-then-i-places
 returns-then-i-places c =
     let a = c.args in

@@ -42,17 +42,8 @@ returns c =
 pub text-second-requires : goal.text-second-requires
 text-second-requires c = omega (arith, half (goal.at.text-second-requires c).After-text-first)
 
-pub part-requires-5 : goal.part-requires-5
-part-requires-5 c = omega (arith, half (goal.at.part-requires-5 c).After-text-first)
-
 pub text-last-requires : goal.text-last-requires
 text-last-requires c = omega (arith, half (goal.at.text-last-requires c).After-text-first)
 
-pub part-requires-6 : goal.part-requires-6
-part-requires-6 c = omega (arith, half (goal.at.part-requires-6 c).After-text-first)
-
 pub text-requires : goal.text-requires
 text-requires c = omega (arith, half (goal.at.text-requires c).After-text-first)
-
-pub shape_of-dst : goal.shape_of-dst
-shape_of-dst c = omega (arith, half (goal.at.shape_of-dst c).After-text-first, c.requires.room)

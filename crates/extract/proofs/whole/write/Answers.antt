@@ -1,7 +1,7 @@
-use Rattle.std.proofs.Common.{arith, length-take-le, ◌+◌, ◌∙◌, ◌≤◌}
+use Rattle.std.proofs.Common.{arith, ◌+◌, ◌∙◌, ◌≤◌}
 use borrow.Rule.Slice.PartMut.{mid_len}
 use Rattle.paper.proofs.Accepted.{accepted_facts}
-use Rattle.extract.proofs.Progress.{header_room, begun, indexes_few, start_room, closed_below, batch_asked, batch_few, batch_below, batch_done, end_room, end_few, extract_long, extract_whole}
+use Rattle.extract.proofs.Progress.{header_room, begun, indexes_few, closed_below, batch_asked, batch_few, batch_below, batch_done, end_room, end_few, extract_whole}
 use Rattle.extract.proofs.whole.write.Goals as goal
 use Rattle.extract.proofs.whole.write.Goals.{After-write-batch, At-loop-i}
 
@@ -21,10 +21,6 @@ record_at-requires c =
     let f = accepted_facts c.requires.passed.rules c.args.file.now c.requires.passed.accepts in
     (f.short, omega (arith, f.long))
 
-pub write-requires : goal.write-requires
-write-requires c =
-    record { entity = c.requires.entity; long = c.record_at.ensures.1; room = length-take-le 94 c.args.out.now (header_room c.requires) }
-
 pub loop-i-init : goal.loop-i-init
 loop-i-init c =
     begun c.requires c.write.ensures c.record_at.ensures.0 c.record_at.ensures.1
@@ -37,25 +33,9 @@ pub file_control-requires : goal.file_control-requires
 file_control-requires c =
     (mid_len c.loop-i.at (c.loop-i.at + 94) c.loop-i.out (search end_room) ∙ omega arith, search end_few)
 
-pub shape_of-out : goal.shape_of-out
-shape_of-out c =
-    extract_long c.requires c.write.ensures c.record_at.ensures.0 c.record_at.ensures.1 c.loop-i.invariant c.loop-i-test.false c.file_control.ensures
-
 pub returns : goal.returns
 returns c =
     extract_whole c.requires c.write.ensures c.record_at.ensures.0 c.record_at.ensures.1 c.loop-i.invariant c.loop-i-test.false c.file_control.ensures
-
-pub overflow_add-number : goal.overflow_add-number
-overflow_add-number c = omega (arith, bounds (goal.at.overflow_add-number c).At-loop-i)
-
-pub slice_bounds-write-count-in-loop-i : goal.slice_bounds-write-count-in-loop-i
-slice_bounds-write-count-in-loop-i c = search start_room
-
-pub slice_bounds-write-start-in-loop-i : goal.slice_bounds-write-start-in-loop-i
-slice_bounds-write-start-in-loop-i c = search start_room
-
-pub offset_bounds-places-i : goal.offset_bounds-places-i
-offset_bounds-places-i c = omega (arith, bounds (goal.at.offset_bounds-places-i c).At-loop-i)
 
 pub overflow_add-at : goal.overflow_add-at
 overflow_add-at c = omega (arith, few (goal.at.overflow_add-at c).After-write-batch, bounds (goal.at.overflow_add-at c).At-loop-i)
@@ -77,12 +57,6 @@ plus-closed-requires c = record { below = search closed_below; below_2 = search 
 
 pub loop-i-preserved : goal.loop-i-preserved
 loop-i-preserved c = rw c.plus-closed.ensures (search batch_done)
-
-pub overflow_add-all : goal.overflow_add-all
-overflow_add-all c = omega (arith, bounds (goal.at.overflow_add-all c).At-loop-i)
-
-pub overflow_add-at-2 : goal.overflow_add-at-2
-overflow_add-at-2 c = omega (arith, bounds (goal.at.overflow_add-at-2 c).At-loop-i)
 
 pub slice_bounds-file_control-end : goal.slice_bounds-file_control-end
 slice_bounds-file_control-end c = search end_room
