@@ -8,7 +8,7 @@ use crate::{byte, text};
 pub fn within(low: u64, high: u64, n: u64) -> bool
     ensures { result ≡ within low high n }
 {
-    (low <= n) & (n <= high)
+    (low..=high).contains(&n)
 }
 
 // No early way out, as over characters.
