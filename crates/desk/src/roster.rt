@@ -25,14 +25,13 @@ pub fn is_listed(roster: &[bool; Session::ROSTER], n: u64) -> bool
     false
 }
 
+// Tried with `all`: what it says of its answer, all or any, did not close against `every`.
 pub fn all_entities(entities: &[u64]) -> bool
     ensures { result ≡ every (within 1 499) entities.now }
 {
     let mut good = true;
-    let mut i: usize = 0;
-    while i < entities.len() {
-        good = good & is_entity(entities[i]);
-        i += 1;
+    for n in entities {
+        good &= is_entity(*n);
     }
     good
 }
