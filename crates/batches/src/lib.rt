@@ -20,6 +20,7 @@ pub fn opens(rec: &[u8]) -> bool
 }
 
 // A record counted with those before it.
+#[tactic(auto, unfolding(crate::specs::Blocks::with_record))]
 pub fn count(tally: Tally, rec: &[u8]) -> Tally
     requires rec_len { length rec.now ≡ 94 }
     requires below { Below (10 ^ 18) tally }

@@ -42,6 +42,7 @@ pub fn numbered(dst: &mut [u8], rec: &[u8], number: u64)
 }
 
 // The sums of a control: destinations, then amounts of both sides.
+#[tactic(auto, unfolding(paper::specs::Writing::spelled))]
 fn sums(out: &mut [u8], at: usize, tally: Tally) -> usize
     requires { at + 34 ≤ length out.old }
     ensures { (result ≡ at + length (sums_of tally)) × (out.new ≡ laid at (sums_of tally) out.old) }
@@ -52,6 +53,7 @@ fn sums(out: &mut [u8], at: usize, tally: Tally) -> usize
 }
 
 // 8, batch control of what stands under a header that has got another number.
+#[tactic(auto, unfolding(paper::specs::Writing::spelled, paper::specs::Writing::blanks))]
 pub fn batch_control(dst: &mut [u8], header: &[u8], number: u64, tally: Tally)
     requires { (length dst.old ≡ 94) × (length header.now ≡ 94) }
     ensures { dst.new ≡ batch_control_of (numbered number header.now) tally }
@@ -67,6 +69,7 @@ pub fn batch_control(dst: &mut [u8], header: &[u8], number: u64, tally: Tally)
 }
 
 // 9, file control of a file of `all` records, this one included.
+#[tactic(auto, unfolding(paper::specs::Writing::spelled, paper::specs::Writing::blanks))]
 pub fn file_control(dst: &mut [u8], all: u64, batches: u64, tally: Tally)
     requires { (length dst.old ≡ 94) × (all ≤ 10000) }
     ensures { dst.new ≡ file_control_of all batches tally }

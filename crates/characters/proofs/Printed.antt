@@ -4,11 +4,8 @@ use Rattle.paper.specs.Fields.{within, among, good}
 use Rattle.paper.proofs.Runs.{Run, in_run}
 use Rattle.characters.proofs.Ranges.{inside, under, over}
 
-abbrev pub in_print : ℕ → Bool
+abbrev in_print : ℕ → Bool
 in_print b = within 32 90 b || eqb b 95
-
-pub printed_last : (b : ℕ) → b ≡ 95 → true ≡ in_print b
-printed_last b e = rw e
 
 -- the code's two tests are the paper's
 abbrev Alike : ℕ → Type 0
@@ -19,13 +16,13 @@ unfolding good among
 the_end = (refl, (refl, (refl, (refl, (refl, tt)))))
 
 module _ (b : ℕ) where
-  pub printed_low : b < 32 → false ≡ in_print b
+  printed_low : b < 32 → false ≡ in_print b
   printed_low h = rw (← under 32 90 b h, ne_eqb b 95 (omega arith))
 
-  pub printed_high : 90 < b → (b ≡ 95 → ⊥) → false ≡ in_print b
+  printed_high : 90 < b → (b ≡ 95 → ⊥) → false ≡ in_print b
   printed_high h k = rw (← over 32 90 b (omega arith) h, ne_eqb b 95 k)
 
-  pub printed_in : 32 ≤ b → b ≤ 90 → true ≡ in_print b
+  printed_in : 32 ≤ b → b ≤ 90 → true ≡ in_print b
   printed_in h k = rw (← inside 32 90 b h k)
 
   low : b < 32 → Alike b

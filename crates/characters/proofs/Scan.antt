@@ -1,5 +1,12 @@
 -- Loops that go up a list with no way out: what has been tested, and what is left to test. A loop that leaves early has tested well so far.
-use Rattle.std.proofs.Common.{◌≡◌, ℕ, suc, ◌+◌, ◌<◌, ◌≤◌, Bool, true, false, ◌&&◌, eqb, List, [], ◌∷◌, length, get_or, drop, sym, refl, ap, ◌∙◌, add-one, arith, drop_of_length-le, drop-cons}
+use Rattle.std.proofs.Common.{◌≡◌, ℕ, Option, ◌+◌, ◌<◌, ◌≤◌, Bool, true, ◌&&◌, eqb, nat_eq, List, [], ◌∷◌, length, get_or, drop, sym, refl, ap, ◌∙◌, add-one, arith, drop_of_length-le, drop-cons}
+use Rattle.std.specs.List.{fold, FoldsTo}
+use Rattle.std.specs.Cmp.Lexicographic.{pointwise}
+use Rattle.std.specs.Fn.{Called}
+use Rattle.std.specs.Iterator.{Drains}
+use Rattle.std.proofs.lemmas.Iterator.{YieldsList}
+use Rattle.std.proofs.lemmas.Iterator.Consumers.{fold_from_yields_List}
+use denote.Param.Members.{Mut}
 use mathlib.Core.Bool.{and_assoc, and-true}
 use Rattle.paper.specs.Fields.{every, same}
 
@@ -24,30 +31,23 @@ module _ (p : ℕ → Bool) (s : List ℕ) (good : Bool) (i : ℕ) (k : Tested p
   unfolding every
   test_end h = finish (λ j. every p (drop j s)) i good (simp (drop_of_length-le s h)) k.1
 
--- the first i of two lists of one length have been compared
-abbrev pub Compared : List ℕ → List ℕ → Bool → ℕ → Type 0
-Compared a b alike i = (i ≤ length a) × (same a b ≡ (alike && same (drop i a) (drop i b)))
+-- a fold over a list, with no way out
+module _ (p : ℕ → Bool) where
+  fold_tested : (good : Bool) (s : List ℕ) → fold (λ a b. a && p b) good s ≡ (good && every p s)
+  unfolding every
+  fold_tested good [] = sym (and-true good)
+  fold_tested good (b ∷ s) = fold_tested (good && p b) s ∙ and_assoc good (p b) (every p s)
 
-module _ (a b : List ℕ) (alike : Bool) (i : ℕ) (l : length a ≡ length b) (k : Compared a b alike i) where
-  pub compare_turn : i < length a → Compared a b (alike && eqb (get_or a i 0) (get_or b i 0)) (i + 1)
-  unfolding same
-  compare_turn h =
-      let rest = turn (λ j. same (drop j a) (drop j b)) i alike (eqb (get_or a i 0) (get_or b i 0)) in
-      (omega arith, rest (simp (add-one, drop-cons a i 0 h, drop-cons b i 0 (omega arith))) k.1)
+  -- as a chain's `fold` answers
+  pub all_tested : {S A F : Type 0} {steps : S → Option A → S → Type 0} {v : A → ℕ} {i : S} {s : List ℕ} (g : Mut F (Bool × (A × Unit {0})) Bool) {f : F} (r : Bool)
+      → ((xs : List A) × (q : F) × Drains steps i xs × FoldsTo {P = F × Bool} (λ a x b. Called g a.0 (a.1, (x, tt)) b.1 b.0) (f, true) xs (q, r)) → YieldsList steps v i s
+      → ((a : Bool) (x : A) (b : Bool) (q : F) → Called g f (a, (x, tt)) b q → (q ≡ f) × (b ≡ (a && p (v x)))) → r ≡ every p s
+  all_tested {s = s} g r ran yields calls = fold_from_yields_List g (λ a b. a && p b) true r ran yields calls ∙ fold_tested true s
 
-  pub compare_end : length a ≤ i → alike ≡ same a b
-  unfolding same
-  compare_end h =
-      finish (λ j. same (drop j a) (drop j b)) i alike
-      (simp (drop_of_length-le a h, drop_of_length-le b {i = i} (omega arith))) k.1
-
-and_no : (x y : Bool) → false ≡ y → false ≡ (x && y)
-and_no true y e = e
-and_no false y e = refl
-
-pub other_length : (a b : List ℕ) → (length a ≡ length b → ⊥) → false ≡ same a b
+-- the library's `==` is the paper's
+pub compared : (xs ys : List ℕ) → pointwise nat_eq xs ys ≡ same xs ys
 unfolding same
-other_length [] [] h = absurd (h refl)
-other_length [] (y ∷ ys) h = refl
-other_length (x ∷ xs) [] h = refl
-other_length (x ∷ xs) (y ∷ ys) h = and_no (eqb x y) (same xs ys) (other_length xs ys (λ e. h (ap suc e)))
+compared [] [] = refl
+compared [] (y ∷ ys) = refl
+compared (x ∷ xs) [] = refl
+compared (x ∷ xs) (y ∷ ys) = ap (λ (t : Bool). eqb x y && t) (compared xs ys)

@@ -1,5 +1,5 @@
 -- Eight bytes as one number: a mask and a test work on each byte apart.
-use Rattle.std.proofs.Common.{◌≡◌, ℕ, zero, suc, ◌+◌, ◌-◌, ◌*◌, ◌/◌, ◌%◌, ◌^◌, ◌<◌, ◌≤◌, Bool, true, false, cond, not, ◌&&◌, T, eqb, ltb, leb, List, [], ◌∷◌, length, get_or, take, drop, replicate, sym, refl, ap, ◌∙◌, ap₂, add-zero, add-suc, arith, length-drop, length-take, length-take-le, get_or-drop, drop-cons, ltb-false, ltb-true, eq-eqb, ne_eqb, eqb-true, le-leb, leb-false, leb-true}
+use Rattle.std.proofs.Common.{◌≡◌, ℕ, zero, suc, ◌+◌, ◌-◌, ◌*◌, ◌/◌, ◌%◌, ◌^◌, ◌<◌, ◌≤◌, Bool, true, false, Some, None, cond, not, ◌&&◌, T, eqb, ltb, leb, List, [], ◌∷◌, length, get_or, take, drop, replicate, sym, refl, ap, ◌∙◌, ap₂, add-zero, add-suc, arith, length-drop, length-take, length-take-le, get_or-drop, drop-cons, ltb-false, ltb-true, eq-eqb, ne_eqb, eqb-true, le-leb, leb-false, leb-true}
 use borrow.Author.Tests.{eqb-false}
 use lib.Bits.{bit_and, bit_or, and_block, and_high, and_le_l, and_zero_r, or_self}
 use Rattle.paper.specs.Fields.{bytes, field, every, digit, digits, blank, value, same, is}
@@ -8,7 +8,6 @@ use Rattle.paper.proofs.Digits.{every_l, every_r}
 use Rattle.characters.specs.Part.{HasField}
 use Rattle.characters.proofs.Part.{parted}
 use Rattle.characters.specs.Words.{numeral_if, numeral_of, packed, Packs}
-use Rattle.characters.specs.declared.word.Numeral.TheVariants.{Digits, Other}
 
 -- the constants of the code
 abbrev pub zeros : ℕ
@@ -215,26 +214,26 @@ packs_field r first last n h e k q =
 
 -- the answer, from whether they are digits, and back
 module _ (f : List ℕ) where
-  pub is_digits : {a b : ℕ} → digits f ≡ true → a ≡ value (take 4 f) → b ≡ value (drop 4 f) → Digits a b ≡ numeral_of f
+  pub is_digits : {a b : ℕ} → digits f ≡ true → a ≡ value (take 4 f) → b ≡ value (drop 4 f) → Some (a, b) ≡ numeral_of f
   unfolding numeral_of numeral_if
   is_digits e p q = rw (e, p, q)
 
-  pub is_other : digits f ≡ false → Other ≡ numeral_of f
+  pub is_none : digits f ≡ false → None ≡ numeral_of f
   unfolding numeral_of numeral_if
-  is_other e = rw e
+  is_none e = rw e
 
-  pub told_digits : {a b : ℕ} → numeral_of f ≡ Digits a b → (digits f ≡ true) × (value (take 4 f) ≡ a) × (value (drop 4 f) ≡ b)
+  pub told_digits : {a b : ℕ} → numeral_of f ≡ Some (a, b) → (digits f ≡ true) × (value (take 4 f) ≡ a) × (value (drop 4 f) ≡ b)
   unfolding numeral_of numeral_if
   told_digits {a} {b} = go (digits f)
     where
-      go : (q : Bool) → numeral_if q f ≡ Digits a b → (q ≡ true) × (value (take 4 f) ≡ a) × (value (drop 4 f) ≡ b)
-      go true e = (refl, cc, cc)
+      go : (q : Bool) → numeral_if q f ≡ Some (a, b) → (q ≡ true) × (value (take 4 f) ≡ a) × (value (drop 4 f) ≡ b)
+      go true e = let p : ◌≡◌ {A = ℕ × ℕ} (value (take 4 f), value (drop 4 f)) (a, b) = cc in (refl, ap (λ (k : ℕ × ℕ). k.0) p, ap (λ (k : ℕ × ℕ). k.1) p)
       go false e = let z : ◌≡◌ {A = ℕ} 0 1 = cc in absurd (omega arith)
 
-  pub told_other : numeral_of f ≡ Other → digits f ≡ false
+  pub told_none : numeral_of f ≡ None → digits f ≡ false
   unfolding numeral_of numeral_if
-  told_other = go (digits f)
+  told_none = go (digits f)
     where
-      go : (q : Bool) → numeral_if q f ≡ Other → q ≡ false
+      go : (q : Bool) → numeral_if q f ≡ None → q ≡ false
       go true e = let z : ◌≡◌ {A = ℕ} 0 1 = cc in absurd (omega arith)
       go false e = refl

@@ -1,15 +1,13 @@
 -- Eight positions at once.
-use Rattle.std.specs.Prelude.{◌≡◌, ℕ, ◌+◌, ◌*◌, ◌<◌, Bool, true, false, List, [], ◌∷◌, length, take, drop, slice_index}
+use Rattle.std.specs.Prelude.{◌≡◌, ℕ, ◌+◌, ◌*◌, ◌<◌, Bool, true, false, Option, Some, None, List, [], ◌∷◌, length, take, drop, slice_index}
 use Rattle.paper.specs.Fields.{digits, value}
-use Rattle.characters.specs.declared.word.Numeral.{Numeral}
-use Rattle.characters.specs.declared.word.Numeral.TheVariants.{Digits, Other}
 
-unfoldable pub numeral_if : Bool → List ℕ → Numeral
-numeral_if true f = Digits (value (take 4 f)) (value (drop 4 f))
-numeral_if false f = Other
+unfoldable pub numeral_if : Bool → List ℕ → Option (ℕ × ℕ)
+numeral_if true f = Some (value (take 4 f), value (drop 4 f))
+numeral_if false f = None
 
--- of eight digits the numbers of the first four and of the last four
-unfoldable pub numeral_of : List ℕ → Numeral
+-- of eight digits the numbers of the first four and of the last four; none where they are not all digits
+unfoldable pub numeral_of : List ℕ → Option (ℕ × ℕ)
 numeral_of f = numeral_if (digits f) f
 
 -- bytes as one number, the first the lowest

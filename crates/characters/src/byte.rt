@@ -6,20 +6,15 @@ ghost use Rattle.paper.specs.Fields.{within, among, good, digit, capital};
 fn printed(b: u8) -> bool
     ensures { result ≡ (within 32 90 b || b == 95) }
 {
-    match b {
-        32..=90 | 95 => true,
-        _ => false,
-    }
+    matches!(b, 32..=90 | 95)
 }
 
 // The other three that it leaves out.
+#[tactic(auto, unfolding(paper::specs::Fields::among))]
 fn barred(b: u8) -> bool
     ensures { result ≡ among (34 ∷ 38 ∷ 39 ∷ []) b }
 {
-    match b {
-        34 | 38..=39 => true,
-        _ => false,
-    }
+    matches!(b, 34 | 38..=39)
 }
 
 // Two tests joined with no branch: a loop over it is then compiled to many bytes at a time.
@@ -29,20 +24,16 @@ pub fn good(b: u8) -> bool
     printed(b) & !barred(b)
 }
 
+#[tactic(auto, unfolding(paper::specs::Fields::digit))]
 pub fn digit(b: u8) -> bool
     ensures { result ≡ digit b }
 {
-    match b {
-        b'0'..=b'9' => true,
-        _ => false,
-    }
+    b.is_ascii_digit()
 }
 
+#[tactic(auto, unfolding(paper::specs::Fields::capital))]
 pub fn capital(b: u8) -> bool
     ensures { result ≡ capital b }
 {
-    match b {
-        b'A'..=b'Z' => true,
-        _ => false,
-    }
+    b.is_ascii_uppercase()
 }

@@ -8,20 +8,14 @@ use crate::{byte, text};
 pub fn within(low: u64, high: u64, n: u64) -> bool
     ensures { result ≡ within low high n }
 {
-    (low <= n) & (n <= high)
+    (low..=high).contains(&n)
 }
 
 // No early way out, as over characters.
 fn all_digits(s: &[u8]) -> bool
     ensures { result ≡ digits s.now }
 {
-    let mut good = true;
-    let mut i: usize = 0;
-    while i < s.len() {
-        good = good & byte::digit(s[i]);
-        i += 1;
-    }
-    good
+    s.iter().fold(true, |good, b| good & byte::digit(*b))
 }
 
 // The low four bits of a digit are its value. No test here: the loop then has no branch, and the digits are tested beside it.
@@ -30,10 +24,8 @@ fn low_value(s: &[u8]) -> u64
     ensures { T (digits s.now) → result ≡ value s.now }
 {
     let mut sum: u64 = 0;
-    let mut i: usize = 0;
-    while i < s.len() {
-        sum = sum * 10 + (s[i] % 16) as u64;
-        i += 1;
+    for b in s {
+        sum = sum * 10 + (*b % 16) as u64;
     }
     sum
 }

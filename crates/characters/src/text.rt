@@ -18,26 +18,14 @@ pub fn part(rec: &[u8], first: usize, last: usize) -> &[u8]
 pub fn all_good(s: &[u8]) -> bool
     ensures { result ≡ every good s.now }
 {
-    let mut good = true;
-    let mut i: usize = 0;
-    while i < s.len() {
-        good = good & byte::good(s[i]);
-        i += 1;
-    }
-    good
+    s.iter().fold(true, |good, b| good & byte::good(*b))
 }
 
 // No early way out either: how many blanks a text begins with, nobody can foretell.
 fn all_blank(s: &[u8]) -> bool
     ensures { result ≡ blank s.now }
 {
-    let mut blank = true;
-    let mut i: usize = 0;
-    while i < s.len() {
-        blank = blank & (b' ' == s[i]);
-        i += 1;
-    }
-    blank
+    s.iter().fold(true, |blank, b| blank & (b' ' == *b))
 }
 
 pub fn blank(rec: &[u8], first: usize, last: usize) -> bool
@@ -47,29 +35,13 @@ pub fn blank(rec: &[u8], first: usize, last: usize) -> bool
     all_blank(part(rec, first, last))
 }
 
-// Of any two lengths.
-fn equal(a: &[u8], b: &[u8]) -> bool
-    ensures { result ≡ same a.now b.now }
-{
-    if a.len() != b.len() {
-        return false;
-    }
-    let mut alike = true;
-    let mut i: usize = 0;
-    while i < a.len() {
-        alike = alike & (a[i] == b[i]);
-        i += 1;
-    }
-    alike
-}
-
 // Whether two fields, of one record or of two, are the same.
 pub fn same(rec: &[u8], first: usize, last: usize, other: &[u8], from: usize, to: usize) -> bool
     requires has_field { HasField rec.now first last }
     requires has_field_2 { HasField other.now from to }
     ensures { result ≡ same (field rec.now first last) (field other.now from to) }
 {
-    equal(part(rec, first, last), part(other, from, to))
+    part(rec, first, last) == part(other, from, to)
 }
 
 // Whether a field is this fixed text.
@@ -77,7 +49,7 @@ pub fn reads(rec: &[u8], first: usize, last: usize, text: &[u8]) -> bool
     requires { HasField rec.now first last }
     ensures { result ≡ same (field rec.now first last) text.now }
 {
-    equal(part(rec, first, last), text)
+    part(rec, first, last) == text
 }
 
 // A digit or a capital at one position.

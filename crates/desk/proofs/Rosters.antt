@@ -16,7 +16,7 @@ use Rattle.paper.proofs.Rosters.{listed_set}
 
 -- the first i are marked
 abbrev pub Marked : List ℕ → List Bool → ℕ → Type 0
-Marked es roster i = (i ≤ length es) × (roster ≡ listed 500 0 (take i es))
+Marked es roster i = roster ≡ listed 500 0 (take i es)
 
 pub below_500 : (e : ℕ) → within 1 499 e ≡ true → e < 500
 below_500 e h = let r = within_range 1 499 e (T_of h) in omega arith
@@ -26,15 +26,10 @@ module _ (es : List ℕ) (i : ℕ) where
   entity_at h l = below_500 (get_or es i 0) (of_T _ (every_at (within 1 499) es i (T_of h) l))
 
   pub mark_turn : (roster : List Bool) → every (within 1 499) es ≡ true → i < length es → Marked es roster i → Marked es (set roster (get_or es i 0) true) (i + 1)
-  mark_turn roster h l m = (
-    omega arith,
-    ap (λ (r : List Bool). set r (get_or es i 0) true) m.1
-        ∙ listed_set (take i es) (get_or es i 0) (entity_at h l)
-        ∙ ap (listed 500 0) (sym (take-suc es i 0 l) ∙ ap (λ (n : ℕ). take n es) (sym (add-one i))),
-  )
-
-  pub mark_end : (roster : List Bool) → Marked es roster i → length es ≤ i → roster ≡ listed 500 0 es
-  mark_end roster m l = m.1 ∙ ap (listed 500 0) (take_all i es l)
+  mark_turn roster h l m =
+      ap (λ (r : List Bool). set r (get_or es i 0) true) m
+      ∙ listed_set (take i es) (get_or es i 0) (entity_at h l)
+      ∙ ap (listed 500 0) (sym (take-suc es i 0 l) ∙ ap (λ (n : ℕ). take n es) (sym (add-one i)))
 
 -- ---- everybody
 

@@ -64,10 +64,8 @@ impl Session {
         ensures { result ≡ numbers_to 499 }
     {
         let mut entities = [0u64; Session::EVERYBODY];
-        let mut i: usize = 0;
-        while i < Session::EVERYBODY {
+        for i in 0..Session::EVERYBODY {
             entities[i] = i as u64 + 1;
-            i += 1;
         }
         entities
     }

@@ -38,14 +38,13 @@ pub fn entity_given(roster: &[bool; Session::ROSTER], entity: u64) -> Result<(),
     Err(Fault::Entity.at(0))
 }
 
+// Tried with `all`: what it says of its answer, all or any, did not close against `every`.
 pub fn all_entities(entities: &[u64]) -> bool
     ensures { result ≡ every (within 1 499) entities.now }
 {
     let mut good = true;
-    let mut i: usize = 0;
-    while i < entities.len() {
-        good = good & is_entity(entities[i]);
-        i += 1;
+    for n in entities {
+        good &= is_entity(*n);
     }
     good
 }

@@ -25,11 +25,8 @@ fn marks(entities: &[u64]) -> [bool; Session::ROSTER]
     ensures { result ≡ listed 500 0 entities.now }
 {
     let mut roster = [false; Session::ROSTER];
-    let mut i: usize = 0;
-    while i < entities.len() {
-        let entity = entities[i] as usize;
-        roster[entity] = true;
-        i += 1;
+    for entity in entities {
+        roster[*entity as usize] = true;
     }
     roster
 }

@@ -8,9 +8,7 @@ ghost use Rattle.paper.specs.Checks.{need};
 ghost use Rattle.verdicts.specs.Verdicts.{check_of, under};
 ghost use Rattle.entries.specs.Judging.{entry_of, flag_rules, counter_rules, closing_rules};
 
-use characters::word::Numeral;
 use characters::{number, text, word};
-use field::individual::Sequence;
 use field::{block, entity, individual, kind};
 use paper::answer::Fault;
 use paper::record::Code;
@@ -108,7 +106,7 @@ fn whereto(terms: Terms, rec: &[u8]) -> Result<u64, Fault>
     ensures says { check_of result ≡ destination (under terms.entry) (field rec.now 4 11) }
     ensures hands { IfOk result (λ n. n ≡ destination_field rec.now) }
 {
-    let Numeral::Digits(entity, branch) = word::halves(rec, 4, 11) else {
+    let Some((entity, branch)) = word::halves(rec, 4, 11) else {
         return Err(Fault::Format);
     };
     destination(terms, entity)?;
@@ -164,7 +162,7 @@ fn counter(header: &[u8], previous: u64, rec: &[u8]) -> Result<u64, Fault>
     ensures says { check_of result ≡ counter_rules header.now previous rec.now }
     ensures hands { IfOk result (λ counter. counter ≡ number_in rec.now) }
 {
-    let Sequence::Number(counter) = individual::counter(rec) else {
+    let Some(counter) = individual::counter(rec) else {
         return Err(Fault::Format);
     };
     let follows = word::same(rec, 80, 87, header, 80, 87) & (previous < counter);

@@ -1,16 +1,15 @@
 -- The numbers of an individual record, from the words in which they stand.
-use Rattle.std.proofs.Common.{◌≡◌, ℕ, ◌+◌, ◌*◌, ◌%◌, Bool, true, false, List, ◌++◌, length, take, drop, sym, refl, ap, ◌∙◌, arith, drop_at}
+use Rattle.std.proofs.Common.{◌≡◌, ℕ, ◌+◌, ◌*◌, ◌%◌, ◌^◌, ◌<◌, MatchOption, Bool, true, false, Option, Some, None, List, ◌++◌, length, take, drop, sym, refl, ap, ◌∙◌, arith, drop_at}
 use mathlib.Core.Bool.{and-false}
 use Rattle.paper.specs.Fields.{field, digit, digits, value, number}
 use Rattle.paper.specs.Entities.{entity_value}
 use Rattle.paper.proofs.Tests.{T_of, of_T}
-use Rattle.paper.proofs.Digits.{every_append}
+use Rattle.paper.proofs.Digits.{every_append, number_bound}
 use Rattle.paper.proofs.Every.{every_take, every_drop}
 use Rattle.characters.specs.Part.{HasField}
 use Rattle.characters.proofs.Part.{parted, parted_before, part_length}
 use Rattle.characters.proofs.Value.{a_number, number_joined, first_none, last_none}
 use Rattle.characters.proofs.Eights.{eight_value, last_seven}
-use Rattle.field.specs.declared.individual.Sequence.TheVariants.{Number, Other}
 use Rattle.field.specs.Sequences.{sequence_of, sequence_if}
 
 -- an entity field of digits: its entity, and entity and branch as one number
@@ -64,35 +63,43 @@ module _ (r : List ℕ) (l : length r ≡ 94) where
       ∙ drop_at (field r 87 87) (field r 88 94) 1 (part_length r 87 87 (omega arith)))
 
   pub sequence_told : digits (field r 80 87) ≡ true → digits (field r 87 94) ≡ true
-      → Number (value (take 4 (field r 87 94)) % 1000 * 10000 + value (drop 4 (field r 87 94))) ≡ sequence_of r
+      → Some (value (take 4 (field r 87 94)) % 1000 * 10000 + value (drop 4 (field r 87 94))) ≡ sequence_of r
   unfolding sequence_of sequence_if
   sequence_told h k =
       let seven : digits (drop 1 (field r 87 94)) ≡ true = of_T _ (every_drop digit 1 (field r 87 94) (T_of k)) in
       let all : digits (field r 80 94) ≡ true = rw (after_sender, every_append digit (field r 80 87) (field r 88 94), h, shared) seven in
       rw (all, shared, ← a_number (drop 1 (field r 87 94)) seven refl, last_seven (field r 87 94) (part_length r 87 94 (omega arith)) (T_of k))
 
-  pub sequence_first : digits (field r 80 87) ≡ false → Other ≡ sequence_of r
+  pub sequence_first : digits (field r 80 87) ≡ false → None ≡ sequence_of r
   unfolding sequence_of sequence_if
   sequence_first h = rw (after_sender, every_append digit (field r 80 87) (field r 88 94), h)
 
-  pub sequence_last : digits (field r 87 94) ≡ false → Other ≡ sequence_of r
+  pub sequence_last : digits (field r 87 94) ≡ false → None ≡ sequence_of r
   unfolding sequence_of sequence_if
   sequence_last h = rw (before_last, every_append digit (field r 80 86) (field r 87 94), h, and-false (digits (field r 80 86)))
 
 -- what the number tells
 module _ (r : List ℕ) where
-  pub sequence_digits : {n : ℕ} → sequence_of r ≡ Number n → (digits (field r 80 94) ≡ true) × (number (field r 88 94) ≡ n)
+  pub sequence_digits : {n : ℕ} → sequence_of r ≡ Some n → (digits (field r 80 94) ≡ true) × (number (field r 88 94) ≡ n)
   unfolding sequence_of sequence_if
   sequence_digits {n} e = go (digits (field r 80 94)) refl e
     where
-      go : (d : Bool) → digits (field r 80 94) ≡ d → sequence_if d r ≡ Number n → (digits (field r 80 94) ≡ true) × (number (field r 88 94) ≡ n)
+      go : (d : Bool) → digits (field r 80 94) ≡ d → sequence_if d r ≡ Some n → (digits (field r 80 94) ≡ true) × (number (field r 88 94) ≡ n)
       go true q h = (q, cc)
       go false q h = let z : ◌≡◌ {A = ℕ} 0 1 = cc in absurd (omega arith)
 
-  pub sequence_other : sequence_of r ≡ Other → digits (field r 80 94) ≡ false
+  pub sequence_none : sequence_of r ≡ None → digits (field r 80 94) ≡ false
   unfolding sequence_of sequence_if
-  sequence_other e = go (digits (field r 80 94)) refl e
+  sequence_none e = go (digits (field r 80 94)) refl e
     where
-      go : (d : Bool) → digits (field r 80 94) ≡ d → sequence_if d r ≡ Other → digits (field r 80 94) ≡ false
+      go : (d : Bool) → digits (field r 80 94) ≡ d → sequence_if d r ≡ None → digits (field r 80 94) ≡ false
       go true q h = let z : ◌≡◌ {A = ℕ} 0 1 = cc in absurd (omega arith)
       go false q h = q
+
+  -- the number in 88-94, counted or not
+  pub number_told : {P : Type 0} {o : Option ℕ} {n : ℕ} → length r ≡ 94 → o ≡ sequence_of r → MatchOption o P (λ m. n ≡ m)
+      → (P → (n ≡ number (field r 88 94)) × (n < 10 ^ 7)) → (n ≡ number (field r 88 94)) × (n < 10 ^ 7)
+  number_told {o = Some m} l e h k =
+      let q = (sequence_digits (sym e)).1 in
+      (h ∙ sym q, rw (h, ← q) (number_bound 7 (field r 88 94) (part_length r 88 94 (omega arith))))
+  number_told {o = None} l e h k = k h

@@ -2,8 +2,6 @@
 ghost use Rattle.std.specs.Prelude.{◌≡◌, ◌≤◌};
 ghost use Rattle.field.specs.Blocks.{weighed, sum_good};
 
-use std::num;
-
 // The ponderador 9713: digits four positions apart have the same weight, and the last of the thirteen has 3.
 const WEIGHTS: [u64; 4] = [9, 7, 1, 3];
 
@@ -35,10 +33,11 @@ fn weigh(four: u64) -> u64
 
 // Of a block of digits in two words and a byte this is the rule (`Blocks.block_told`). Digits eight positions apart are added up, then those four apart, all
 // at once.
+#[tactic(auto, unfolding(crate::specs::Blocks::sum_good))]
 pub fn good(front: u64, back: u64, check: u8) -> bool
     ensures { result ≡ sum_good front back check }
 {
-    let eight = num::wrapping_add_u64(front / THREE_BYTES * THREE_BYTES, back);
-    let four = num::wrapping_add_u64(eight, eight / FOUR_BYTES);
+    let eight = (front / THREE_BYTES * THREE_BYTES).wrapping_add(back);
+    let four = eight.wrapping_add(eight / FOUR_BYTES);
     (weigh(four) + check as u64) % 10 == ZEROS % 10
 }

@@ -27,6 +27,7 @@ pub fn month_days(year: u64, month: u64) -> u64
     DAYS[month as usize]
 }
 
+#[tactic(auto, unfolding(paper::specs::Dates::is_date))]
 pub fn is_date(n: u64) -> bool
     ensures { result ≡ is_date n }
 {
@@ -37,6 +38,7 @@ pub fn is_date(n: u64) -> bool
 }
 
 // A field that is no number counts as 0, which is no date.
+#[tactic(auto, using(crate::proofs::Numbers::date_number))]
 pub fn date(rec: &[u8], first: usize, last: usize) -> bool
     requires has_field { HasField rec.now first last }
     requires last_value { last ≡ first + 5 }
@@ -45,6 +47,7 @@ pub fn date(rec: &[u8], first: usize, last: usize) -> bool
     is_date(number::number(rec, first, last))
 }
 
+#[tactic(auto, using(crate::proofs::Numbers::time_number))]
 pub fn time(rec: &[u8], first: usize, last: usize) -> bool
     requires has_field { HasField rec.now first last }
     requires last_value { last ≡ first + 3 }

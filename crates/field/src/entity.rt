@@ -37,6 +37,7 @@ pub fn own(currency: Currency, n: u64) -> u64
     }
 }
 
+#[tactic(auto, using(crate::proofs::Currencies::of_field))]
 pub fn of_currency(currency: Currency, rec: &[u8], first: usize, last: usize) -> bool
     requires has_field { HasField rec.now first last }
     requires last_value { last ≡ first + 7 }
@@ -45,6 +46,7 @@ pub fn of_currency(currency: Currency, rec: &[u8], first: usize, last: usize) ->
     in_currency(currency, entity_value(rec, first, last))
 }
 
+#[tactic(auto, unfolding(paper::specs::Entities::entity_field))]
 pub fn entity_field(rec: &[u8], first: usize, last: usize) -> bool
     requires has_field { HasField rec.now first last }
     requires last_value { last ≡ first + 7 }
@@ -56,6 +58,7 @@ pub fn entity_field(rec: &[u8], first: usize, last: usize) -> bool
 }
 
 // Dollars add 500 to the entity's number.
+#[tactic(auto, unfolding(paper::specs::Entities::entity))]
 pub fn entity(rec: &[u8], first: usize, last: usize) -> u64
     requires has_field { HasField rec.now first last }
     requires last_value { last ≡ first + 7 }
@@ -64,6 +67,7 @@ pub fn entity(rec: &[u8], first: usize, last: usize) -> u64
     entity_value(rec, first, last) % Currency::DOLLARS_ADD
 }
 
+#[tactic(auto, unfolding(paper::specs::Entities::on_roster))]
 pub fn on_roster(roster: &[bool; Rules::ROSTER], rec: &[u8], first: usize, last: usize) -> bool
     requires has_field { HasField rec.now first last }
     requires last_value { last ≡ first + 7 }

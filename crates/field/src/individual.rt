@@ -6,7 +6,6 @@ ghost use Rattle.characters.specs.Part.{HasField};
 ghost use Rattle.field.specs.Sequences.{sequence_of};
 
 use crate::entity;
-use characters::word::Numeral;
 use characters::{number, text, word};
 
 // One past the largest number of so many digits.
@@ -16,20 +15,13 @@ const THREE_DIGITS: u64 = 1000;
 
 const FOUR_DIGITS: u64 = 10000;
 
-// Positions 80 to 94: the number in the last seven, where all fifteen are digits.
-#[derive(Clone, Copy)]
-pub enum Sequence {
-    Number(u64),
-    Other,
-}
-
 // The number in ten positions from the first on; nothing where they are not ten digits. The last two are counted from it too, so that the compiler sees
 // how many they are.
 pub fn cents(rec: &[u8], first: usize) -> u64
     requires { HasField rec.now first (first + 9) }
     ensures { (result ≡ number (field rec.now first (first + 9))) × (result < 10 ^ 10) }
 {
-    let Numeral::Digits(high, low) = word::halves(rec, first, first + 7) else {
+    let Some((high, low)) = word::halves(rec, first, first + 7) else {
         return 0;
     };
     if !number::digits(rec, first + 8, first + 9) {
@@ -39,6 +31,7 @@ pub fn cents(rec: &[u8], first: usize) -> u64
 }
 
 // In cents; nothing where it is not ten digits.
+#[tactic(auto, unfolding(paper::specs::Records::amount_of))]
 pub fn amount(rec: &[u8]) -> u64
     requires { length rec.now ≡ 94 }
     ensures { (result ≡ amount_of rec.now) × (result < 10 ^ 10) }
@@ -46,18 +39,16 @@ pub fn amount(rec: &[u8]) -> u64
     cents(rec, 30)
 }
 
-// Of two words that share position 87 the second one's last seven.
-pub fn counter(rec: &[u8]) -> Sequence
+// Positions 80 to 94: the number in the last seven, where all fifteen are digits. Of two words that share position 87 the second one's last seven.
+pub fn counter(rec: &[u8]) -> Option<u64>
     requires { length rec.now ≡ 94 }
     ensures { result ≡ sequence_of rec.now }
 {
     if !word::digits(rec, 80, 87) {
-        return Sequence::Other;
+        return None;
     }
-    let Numeral::Digits(high, low) = word::halves(rec, 87, 94) else {
-        return Sequence::Other;
-    };
-    Sequence::Number(high % THREE_DIGITS * FOUR_DIGITS + low)
+    let (high, low) = word::halves(rec, 87, 94)?;
+    Some(high % THREE_DIGITS * FOUR_DIGITS + low)
 }
 
 // 88 to 94; 0 where that is not seven digits.
@@ -65,10 +56,7 @@ pub fn number(rec: &[u8]) -> u64
     requires { length rec.now ≡ 94 }
     ensures { (result ≡ number_in rec.now) × (result < 10 ^ 7) }
 {
-    let Sequence::Number(n) = counter(rec) else {
-        return number::number(rec, 88, 94);
-    };
-    n
+    counter(rec).unwrap_or_else(|| number::number(rec, 88, 94))
 }
 
 // The entity that it is addressed to, at any branch.

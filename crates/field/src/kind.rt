@@ -4,6 +4,7 @@ ghost use Rattle.paper.specs.Kinds.{opens_batch, is_individual, is_additional, c
 
 use paper::record::{Code, Kind};
 
+#[tactic(auto, unfolding(paper::specs::Kinds::kind, paper::specs::Kinds::kind_of))]
 pub fn kind(rec: &[u8]) -> Kind
     requires { 1 ≤ length rec.now }
     ensures { result ≡ kind_of rec.now }
@@ -19,64 +20,33 @@ pub fn kind(rec: &[u8]) -> Kind
     }
 }
 
-// A 5, a 6, a 7, an 8. Every kind is written out, so that each of the four is proved without a proof by hand.
+// A 5, a 6, a 7, an 8.
 pub fn opens_batch(kind: Kind) -> bool
     ensures { result ≡ opens_batch kind }
 {
-    match kind {
-        Kind::FileHeader => false,
-        Kind::BatchHeader => true,
-        Kind::Individual => false,
-        Kind::Additional => false,
-        Kind::BatchControl => false,
-        Kind::FileControl => false,
-        Kind::Other => false,
-    }
+    matches!(kind, Kind::BatchHeader)
 }
 
 pub fn is_individual(kind: Kind) -> bool
     ensures { result ≡ is_individual kind }
 {
-    match kind {
-        Kind::FileHeader => false,
-        Kind::BatchHeader => false,
-        Kind::Individual => true,
-        Kind::Additional => false,
-        Kind::BatchControl => false,
-        Kind::FileControl => false,
-        Kind::Other => false,
-    }
+    matches!(kind, Kind::Individual)
 }
 
 pub fn is_additional(kind: Kind) -> bool
     ensures { result ≡ is_additional kind }
 {
-    match kind {
-        Kind::FileHeader => false,
-        Kind::BatchHeader => false,
-        Kind::Individual => false,
-        Kind::Additional => true,
-        Kind::BatchControl => false,
-        Kind::FileControl => false,
-        Kind::Other => false,
-    }
+    matches!(kind, Kind::Additional)
 }
 
 pub fn closes_batch(kind: Kind) -> bool
     ensures { result ≡ closes_batch kind }
 {
-    match kind {
-        Kind::FileHeader => false,
-        Kind::BatchHeader => false,
-        Kind::Individual => false,
-        Kind::Additional => false,
-        Kind::BatchControl => true,
-        Kind::FileControl => false,
-        Kind::Other => false,
-    }
+    matches!(kind, Kind::BatchControl)
 }
 
 // 37, 36, 32 or 31.
+#[tactic(auto, unfolding(paper::specs::Kinds::code_of, paper::specs::Fields::same))]
 pub fn code(rec: &[u8]) -> Code
     requires { 3 ≤ length rec.now }
     ensures { result ≡ code_of rec.now }
@@ -96,75 +66,39 @@ pub fn code(rec: &[u8]) -> Code
 pub fn known(code: Code) -> bool
     ensures { result ≡ known code }
 {
-    match code {
-        Code::Order => true,
-        Code::Rejection => true,
-        Code::Reversal => true,
-        Code::ReversalRejection => true,
-        Code::Unknown => false,
-    }
+    !matches!(code, Code::Unknown)
 }
 
 pub fn is_order(code: Code) -> bool
     ensures { result ≡ is_order code }
 {
-    match code {
-        Code::Order => true,
-        Code::Rejection => false,
-        Code::Reversal => false,
-        Code::ReversalRejection => false,
-        Code::Unknown => false,
-    }
+    matches!(code, Code::Order)
 }
 
 // A receiver's reversal, or the rejection of one.
 pub fn takes01(code: Code) -> bool
     ensures { result ≡ takes01 code }
 {
-    match code {
-        Code::Order => true,
-        Code::Rejection => true,
-        Code::Reversal => false,
-        Code::ReversalRejection => false,
-        Code::Unknown => false,
-    }
+    matches!(code, Code::Order | Code::Rejection)
 }
 
 // The sender's position rises. A rejection returns a debit, so its sender collects too.
 pub fn collects(code: Code) -> bool
     ensures { result ≡ collects code }
 {
-    match code {
-        Code::Order => true,
-        Code::Rejection => true,
-        Code::Reversal => false,
-        Code::ReversalRejection => false,
-        Code::Unknown => false,
-    }
+    matches!(code, Code::Order | Code::Rejection)
 }
 
 // The sender's position falls.
 pub fn pays(code: Code) -> bool
     ensures { result ≡ pays code }
 {
-    match code {
-        Code::Order => false,
-        Code::Rejection => false,
-        Code::Reversal => true,
-        Code::ReversalRejection => true,
-        Code::Unknown => false,
-    }
+    matches!(code, Code::Reversal | Code::ReversalRejection)
 }
 
 // The additional record is a 99, and after the others an 05.
 pub fn rejects(code: Code) -> bool
     ensures { result ≡ rejects code }
 {
-    match code {
-        Code::Order => false,
-        Code::Rejection => true,
-        Code::Reversal => false,
-        Code::ReversalRejection => true,
-        Code::Unknown => false,
-    }
+    matches!(code, Code::Rejection | Code::ReversalRejection)
 }

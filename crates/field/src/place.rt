@@ -13,6 +13,7 @@ impl Record {
     pub const MOST: usize = 10000;
 }
 
+#[tactic(auto, unfolding(paper::specs::Reading::record_at))]
 pub fn record_at(file: &[u8], place: usize) -> &[u8]
     requires { InFile file.now place }
     ensures { (result.now ≡ record_at file.now place) × (length result.now ≡ 94) }

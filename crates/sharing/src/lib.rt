@@ -21,16 +21,15 @@ pub enum Part {
 }
 
 // Whether a batch of the file holds a record to the entity. The file may have any length: nobody has read it yet.
+#[tactic(auto, using(crate::proofs::Looking::whole, crate::proofs::Looking::none_left, crate::proofs::Looking::lent_size))]
 fn holds(entity: u64, file: &[u8]) -> bool
     ensures { result ≡ holds_to entity file.now }
 {
     let records = file.len() / Session::RECORD;
     let mut inside = false;
-    let mut place: usize = 0;
-    while place < records {
+    for place in 0..records {
         let at = place * Session::RECORD;
         let rec = &file[at..at + Session::RECORD];
-        place += 1;
         match kind::kind(rec) {
             Kind::BatchHeader => {
                 inside = true;

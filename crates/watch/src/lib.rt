@@ -10,20 +10,19 @@ pub struct Watch {
     place: u64,
     // bytes still to come before it
     left: u64,
-    // whether the byte there has come, and which it is
-    come: bool,
-    byte: u8,
+    // the byte there, once it has come
+    byte: Option<u8>,
 }
 
 impl Watch {
+    #[tactic(auto, unfolding(crate::specs::Watches::watch_at))]
     pub fn at(place: u64) -> Watch
         ensures { result ≡ watch_at place }
     {
         Watch {
             place,
             left: place,
-            come: false,
-            byte: 0,
+            byte: None,
         }
     }
 
@@ -35,27 +34,23 @@ impl Watch {
     }
 
     // After more bytes.
+    #[tactic(auto, unfolding(crate::specs::Watches::watch_on, crate::specs::Watches::watch_by))]
     pub fn on(self, bytes: &[u8]) -> Watch
         ensures { result ≡ watch_on self bytes.now }
     {
-        if self.come {
+        let None = self.byte else {
             return self;
-        }
-        let more = bytes.len() as u64;
-        if self.left >= more {
-            return Watch {
-                place: self.place,
-                left: self.left - more,
-                come: false,
-                byte: self.byte,
-            };
-        }
-        let at = self.left as usize;
-        Watch {
-            place: self.place,
-            left: 0,
-            come: true,
-            byte: bytes[at],
+        };
+        match bytes.get(self.left as usize) {
+            Some(&byte) => Watch {
+                left: 0,
+                byte: Some(byte),
+                ..self
+            },
+            None => Watch {
+                left: self.left - bytes.len() as u64,
+                ..self
+            },
         }
     }
 }

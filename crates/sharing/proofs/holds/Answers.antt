@@ -1,43 +1,19 @@
-use Rattle.std.proofs.Common.{arith, length, sym, ◌/◌, ◌<◌, ◌∙◌, ◌≤◌}
-use Rattle.sharing.proofs.Looking.{whole, none_left, lent_size, opens, finds, passes, others}
+use Rattle.std.proofs.Common.{sym, ◌∙◌}
 use borrow.Enum.Refused.{opened}
+use Rattle.sharing.proofs.Looking.{opens, finds, passes, others}
 use Rattle.sharing.proofs.holds.Goals as goal
-use Rattle.sharing.proofs.holds.Goals.{In-loop-place}
-
-pub loop-place-init : goal.loop-place-init
-loop-place-init c = record { within = omega arith; left = whole _ _ }
-
--- in a turn there is a record at the place
-there : (c : In-loop-place) → c.loop-place.place < length c.args.file.now / 94
-there c = omega arith
-
-pub kind-requires : goal.kind-requires
-kind-requires c =
-    omega (arith, lent_size c.args.file.now c.loop-place.place (there (goal.at.kind-requires c).In-loop-place))
-
-pub loop-place-preserved-in-BatchHeader : goal.loop-place-preserved-in-BatchHeader
-loop-place-preserved-in-BatchHeader c =
-    record { within = omega arith; left = c.loop-place.invariant.left ∙ opens _ _ _ _ (there (goal.at.loop-place-preserved-in-BatchHeader c).In-loop-place) c.kind.ensures c.in-BatchHeader.is }
-
-pub destination-requires : goal.destination-requires
-destination-requires c = lent_size _ _ (there (goal.at.destination-requires c).In-loop-place)
+use Rattle.sharing.proofs.holds.Goals.{in-BatchHeader, in-Individual+else-inside-destination, in_default}
 
 pub returns-then-inside-destination : goal.returns-then-inside-destination
 returns-then-inside-destination c =
-    sym (c.loop-place.invariant.left ∙ finds _ _ _ _ (there (goal.at.returns-then-inside-destination c).In-loop-place) c.kind.ensures c.in-Individual.is c.destination.ensures.0 c.if-inside-destination.true)
-
-pub loop-place-preserved-else-inside-destination : goal.loop-place-preserved-else-inside-destination
-loop-place-preserved-else-inside-destination c =
-    record {
-      within = omega arith;
-      left = c.loop-place.invariant.left ∙ passes _ _ _ _ (there (goal.at.loop-place-preserved-else-inside-destination c).In-loop-place) c.kind.ensures c.in-Individual.is c.destination.ensures.0 c.if-inside-destination.false;
-    }
+    sym (c.loop-place.invariant ∙ finds _ _ _ _ c.loop-place-test.true c.kind.ensures c.in-Individual.is c.destination.ensures.0 c.if-inside-destination.true)
 
 pub loop-place-preserved : goal.loop-place-preserved
 loop-place-preserved c =
-    record { within = omega arith; left = c.loop-place.invariant.left ∙ others _ _ _ _ (there (goal.at.loop-place-preserved c).In-loop-place) c.kind.ensures (opened c.in_default.in_default-own.keys3) }
-
-pub returns : goal.returns
-returns c =
-    let end : length c.args.file.now / 94 ≤ c.loop-place.place = omega arith in
-    sym (c.loop-place.invariant.left ∙ none_left _ _ _ _ end)
+    let here = c.loop-place-test.true in
+    let k = c.kind.ensures in
+    elim c.match-kind.branch [
+      | in-BatchHeader w ↦ rw w.inside-is (c.loop-place.invariant ∙ opens _ _ _ _ here k w.in-BatchHeader.is)
+      | in-Individual+else-inside-destination w ↦ rw w.inside-is (c.loop-place.invariant ∙ passes _ _ _ _ here k w.in-Individual.is w.destination.ensures.0 w.if-inside-destination.false)
+      | in_default w ↦ rw w.inside-is (c.loop-place.invariant ∙ others _ _ _ _ here k (opened w.in_default.in_default-own.keys3))
+    ]

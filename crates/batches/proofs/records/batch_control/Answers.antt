@@ -7,34 +7,10 @@ use Rattle.batches.proofs.Controls.{control_parts}
 use Rattle.batches.proofs.records.batch_control.Goals as goal
 use Rattle.batches.proofs.records.batch_control.Goals.{After-sums-tax}
 
-pub sums-tax-requires : goal.sums-tax-requires
-unfolding spelled
-sums-tax-requires c = omega arith
-
 -- positions 1-44 are written
 half : (c : After-sums-tax) → (c.sums-tax.result ≡ 44) × (length c.sums-tax.new.out ≡ 94)
 unfolding spelled
 half c = (omega arith, omega arith)
-
-pub text-free-requires : goal.text-free-requires
-text-free-requires c = omega (arith, half (goal.at.text-free-requires c).After-sums-tax)
-
-pub spaces-sender-requires : goal.spaces-sender-requires
-spaces-sender-requires c = omega (arith, half (goal.at.spaces-sender-requires c).After-sums-tax)
-
-pub part-requires-3 : goal.part-requires-3
-part-requires-3 c = omega (arith, c.requires)
-
-pub text-last-requires : goal.text-last-requires
-unfolding blanks
-text-last-requires c = omega (arith, half (goal.at.text-last-requires c).After-sums-tax)
-
-pub field-requires : goal.field-requires
-unfolding blanks
-field-requires c = omega (arith, half (goal.at.field-requires c).After-sums-tax)
-
-pub shape_of-dst : goal.shape_of-dst
-shape_of-dst c = omega (arith, half (goal.at.shape_of-dst c).After-sums-tax, c.requires)
 
 half_wrote : (c : After-sums-tax) → let a = c.args in
     Wrote 0 (bytes "8" ++ field a.header.now 2 4 ++ spelled 6 a.tally.records ++ sums_of a.tally) a.dst.now c.sums-tax.new.out c.sums-tax.result

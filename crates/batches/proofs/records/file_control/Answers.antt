@@ -7,22 +7,6 @@ use Rattle.writing.proofs.Laying.{start, on, filled}
 use Rattle.batches.proofs.Controls.{total_parts}
 use Rattle.batches.proofs.records.file_control.Goals as goal
 
-pub field-records-requires : goal.field-records-requires
-unfolding spelled
-field-records-requires c = omega arith
-
-pub field-totals-requires : goal.field-totals-requires
-unfolding spelled
-field-totals-requires c = omega arith
-
-pub sums-free-requires : goal.sums-free-requires
-unfolding spelled
-sums-free-requires c = omega arith
-
-pub spaces-requires : goal.spaces-requires
-unfolding spelled
-spaces-requires c = omega arith
-
 pub returns : goal.returns
 unfolding spelled blanks
 returns c =

@@ -3,14 +3,6 @@ use Rattle.paper.specs.Writing.{spelled}
 use Rattle.writing.proofs.Laying.{start, on}
 use Rattle.batches.proofs.records.sums.Goals as goal
 
-pub field-credits-requires : goal.field-credits-requires
-unfolding spelled
-field-credits-requires c = omega arith
-
-pub field-requires : goal.field-requires
-unfolding spelled
-field-requires c = omega arith
-
 pub returns : goal.returns
 returns c =
     let t = c.args.tally in

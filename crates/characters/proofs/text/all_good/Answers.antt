@@ -1,16 +1,8 @@
-use Rattle.std.proofs.Common.{arith, refl}
+use Rattle.std.proofs.Common.{rules}
+use Rattle.std.proofs.lemmas.Iterator.{YieldsList-from_slice}
 use Rattle.paper.specs.Fields.{good}
-use Rattle.characters.proofs.Scan.{test_turn, test_end}
+use Rattle.characters.proofs.Scan.{all_tested}
 use Rattle.characters.proofs.text.all_good.Goals as goal
 
-pub loop-i-preserved : goal.loop-i-preserved
-loop-i-preserved c =
-    test_turn good c.args.s.now c.loop-i.good c.loop-i.i c.loop-i.invariant
-    c.loop-i-test.true c.good-good.ensures
-
 pub returns : goal.returns
-returns c =
-    test_end good c.args.s.now c.loop-i.good c.loop-i.i c.loop-i.invariant c.loop-i-test.false
-
-pub loop-i-init : goal.loop-i-init
-loop-i-init c = (omega arith, refl)
+returns c = all_tested good _ _ c.fold.ensures.ran (YieldsList-from_slice c.args.s.now cc) (λ a x b q k. search rules)

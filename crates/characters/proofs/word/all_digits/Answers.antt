@@ -1,6 +1,8 @@
-use Rattle.std.proofs.Common.{arith}
-use Rattle.characters.proofs.Words.{whether_digits}
+use Rattle.std.proofs.Common.{arith, refl, ◌+◌, ◌-◌, ◌%◌, ◌^◌, ℕ}
+use Rattle.characters.proofs.Words.{whether_digits, zeros, sixes}
 use Rattle.characters.proofs.word.all_digits.Goals as goal
 
 pub returns : goal.returns
-returns c f p = whether_digits p _ _ (omega arith) c.wrapping_sub_u64-values.ensures.value c.wrapping_add_u64-more.ensures.value
+returns c f p =
+    let v : ℕ = (c.args.bytes + (2 ^ 64 - zeros)) % 2 ^ 64 in
+    whether_digits p v ((v + sixes) % 2 ^ 64) (omega arith) (omega arith) refl

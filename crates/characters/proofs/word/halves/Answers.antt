@@ -3,7 +3,7 @@ use borrow.Author.Tests.{not-false}
 use Rattle.paper.specs.Fields.{digits, value}
 use Rattle.paper.proofs.Tests.{T_of}
 use Rattle.characters.specs.Words.{Packs}
-use Rattle.characters.proofs.Words.{is_digits, is_other}
+use Rattle.characters.proofs.Words.{is_digits, is_none}
 use Rattle.characters.proofs.Halves.{Halved, halves_of}
 use Rattle.characters.proofs.word.halves.Goals as goal
 
@@ -14,7 +14,7 @@ known {f} {n} {r} p h e = let t = sym (h f p) ∙ not-false r e in (t, halves_of
 
 pub returns-then-not-all_digits : goal.returns-then-not-all_digits
 returns-then-not-all_digits c =
-    is_other _ (sym (c.all_digits.ensures _ c.word-bytes.ensures) ∙ c.if-not-all_digits.true)
+    is_none _ (sym (c.all_digits.ensures _ c.word-bytes.ensures) ∙ c.if-not-all_digits.true)
 
 pub returns : goal.returns
 returns c =
@@ -29,9 +29,3 @@ overflow_mul-pairs c = omega (arith, known c.word-bytes.ensures c.all_digits.ens
 
 pub overflow_add-pairs : goal.overflow_add-pairs
 overflow_add-pairs c = omega (arith, known c.word-bytes.ensures c.all_digits.ensures c.if-not-all_digits.false-raw)
-
-pub overflow_mul-fours : goal.overflow_mul-fours
-overflow_mul-fours c = omega (arith, known c.word-bytes.ensures c.all_digits.ensures c.if-not-all_digits.false-raw)
-
-pub overflow_add-fours : goal.overflow_add-fours
-overflow_add-fours c = omega (arith, known c.word-bytes.ensures c.all_digits.ensures c.if-not-all_digits.false-raw)

@@ -2,21 +2,21 @@ use Rattle.std.proofs.Common.{arith, drop, length, lit<, sym, take, true, ◌+�
 use Rattle.paper.specs.Fields.{field, digits, value}
 use Rattle.paper.proofs.Tests.{T_of}
 use Rattle.characters.proofs.Eights.{first_small, last_small}
-use Rattle.characters.proofs.Words.{told_digits, told_other}
+use Rattle.characters.proofs.Words.{told_digits, told_none}
 use Rattle.field.proofs.Words.{eight_long, cents_told, cents_first, cents_last}
 use Rattle.field.proofs.individual.cents.Goals as goal
-use Rattle.field.proofs.individual.cents.Goals.{After-number, In-Digits}
+use Rattle.field.proofs.individual.cents.Goals.{After-number, In-Some}
 
 pub returns-in_default : goal.returns-in_default
 returns-in_default c =
-    (cents_first _ _ c.requires (told_other _ (sym c.halves.ensures ∙ c.in_default.is)), lit< tt)
+    (cents_first _ _ c.requires (told_none _ (sym c.halves.ensures ∙ c.in_default.is)), lit< tt)
 
 -- the first eight are digits
-abbrev eight : (c : In-Digits) → let f = field c.args.rec.now c.args.first (c.args.first + 7) in
-    (digits f ≡ true) × (value (take 4 f) ≡ c.in-Digits.high) × (value (drop 4 f) ≡ c.in-Digits.low)
-eight c = told_digits _ (sym c.halves.ensures ∙ c.in-Digits.is)
+abbrev eight : (c : In-Some) → let f = field c.args.rec.now c.args.first (c.args.first + 7) in
+    (digits f ≡ true) × (value (take 4 f) ≡ c.in-Some.high) × (value (drop 4 f) ≡ c.in-Some.low)
+eight c = told_digits _ (sym c.halves.ensures ∙ c.in-Some.is)
 
-small : (c : In-Digits) → (c.in-Digits.high < 10000) × (c.in-Digits.low < 10000)
+small : (c : In-Some) → (c.in-Some.high < 10000) × (c.in-Some.low < 10000)
 small c =
     let f = field c.args.rec.now c.args.first (c.args.first + 7) in
     let l : length f ≡ 8 = eight_long _ _ c.requires in
@@ -35,21 +35,21 @@ pair c =
 
 pub returns : goal.returns
 returns c =
-    let t = eight (goal.at.returns c).In-Digits in
-    let s = small (goal.at.returns c).In-Digits in (
+    let t = eight (goal.at.returns c).In-Some in
+    let s = small (goal.at.returns c).In-Some in (
       rw (c.number.ensures.0, ← t.1, ← t.2)
           (cents_told _ _ c.requires t.0 (sym c.digits.ensures ∙ c.if-not-digits.false)),
       omega (arith, pair c),
     )
 
 pub overflow_mul-result : goal.overflow_mul-result
-overflow_mul-result c = omega (arith, small (goal.at.overflow_mul-result c).In-Digits)
+overflow_mul-result c = omega (arith, small (goal.at.overflow_mul-result c).In-Some)
 
 pub overflow_add-result : goal.overflow_add-result
-overflow_add-result c = omega (arith, small (goal.at.overflow_add-result c).In-Digits)
+overflow_add-result c = omega (arith, small (goal.at.overflow_add-result c).In-Some)
 
 pub overflow_mul-result-2 : goal.overflow_mul-result-2
-overflow_mul-result-2 c = omega (arith, small (goal.at.overflow_mul-result-2 c).In-Digits)
+overflow_mul-result-2 c = omega (arith, small (goal.at.overflow_mul-result-2 c).In-Some)
 
 pub overflow_add-result-2 : goal.overflow_add-result-2
-overflow_add-result-2 c = omega (arith, small (goal.at.overflow_add-result-2 c).In-Digits, pair c)
+overflow_add-result-2 c = omega (arith, small (goal.at.overflow_add-result-2 c).In-Some, pair c)
