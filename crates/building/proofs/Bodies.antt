@@ -4,7 +4,7 @@ use mathlib.Core.Bool.{Bool, true, false}
 use mathlib.Core.List.{List, ◌∷◌}
 use mathlib.Core.Path.{◌≡◌, refl, sym, ap, ◌∙◌}
 use native.Mathlib.Omega.{arith}
-use borrow.Rule.Slice.PartMut.{mid_of, put_mid, mid_len, same_len_mid}
+use borrow.Rule.Slice.PartMut.{mid_of, put_mid, mid_len}
 use lib.ListN.{length, take, drop}
 use lib.Seq.{length-take-le}
 use Rattle.paper.specs.declared.record.Tally.{Tally}

@@ -1,4 +1,4 @@
-use Rattle.std.proofs.Common.{Bool, ap, arith, not, refl, true, false, ◌/◌, length, ◌≡◌, drop}
+use Rattle.std.proofs.Common.{ap, arith, not, refl, ◌/◌, length, ◌≡◌, drop}
 use Rattle.batches.specs.Blocks.{own_at}
 use Rattle.batches.proofs.Own.{own_there, none_there}
 use Rattle.tray.specs.Trays.{bodies}
