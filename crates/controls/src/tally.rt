@@ -42,8 +42,7 @@ pub fn with_entry(tally: Tally, destination: u64, debit: bool, amount: u64) -> T
 
 // What is no code of the paper's counts on neither side.
 #[tactic(auto, using(crate::proofs::Sides::sides), unfolding(paper::specs::Controls::with_individual))]
-pub fn with_individual(tally: Tally, rec: &[u8]) -> Tally
-    requires rec_len { length rec.now ≡ 94 }
+pub fn with_individual(tally: Tally, rec: &[u8; Record::LENGTH]) -> Tally
     requires below { Below (10 ^ 18) tally }
     ensures { result ≡ with_individual tally rec.now }
 {

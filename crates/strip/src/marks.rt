@@ -11,8 +11,7 @@ use tray::Tray;
 use writing::text;
 
 // How many bytes that is: those of a tray record, or none.
-pub fn bytes(rec: &[u8]) -> usize
-    requires { length rec.now ≡ 94 }
+pub fn bytes(rec: &[u8; Record::LENGTH]) -> usize
     ensures { (result ≡ length (on_tray rec.now)) × (result ≤ 96) }
 {
     match kind::kind(rec) {
