@@ -5,6 +5,7 @@ ghost use Rattle.verdicts.specs.Verdicts.{check_of};
 
 use crate::control;
 use characters::number;
+use field::place::Record;
 use paper::answer::Fault;
 use paper::record::Tally;
 use verdicts::verdict::need;

@@ -3,6 +3,7 @@ ghost use Rattle.std.specs.Prelude.{◌≡◌, cond, ◌+◌, ◌^◌, ◌≤◌
 ghost use Rattle.paper.specs.Controls.{plus, with_individual, with_additional};
 ghost use Rattle.controls.specs.Bounds.{Below};
 
+use field::place::Record;
 use field::{individual, kind};
 use paper::record::Tally;
 

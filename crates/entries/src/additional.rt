@@ -5,6 +5,7 @@ ghost use Rattle.verdicts.specs.Verdicts.{check_of};
 
 use characters::{number, text};
 use field::kind;
+use field::place::Record;
 use paper::answer::Fault;
 use verdicts::verdict::need;
 

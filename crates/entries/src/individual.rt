@@ -9,6 +9,7 @@ ghost use Rattle.verdicts.specs.Verdicts.{check_of, under};
 ghost use Rattle.entries.specs.Judging.{entry_of, flag_rules, counter_rules, closing_rules};
 
 use characters::{number, text, word};
+use field::place::Record;
 use field::{block, entity, individual, kind};
 use paper::answer::Fault;
 use paper::record::Code;
@@ -148,7 +149,11 @@ fn flag(rec: &[u8; Record::LENGTH]) -> Result<(), Fault>
 
 // Positions 80 to 94, under the batch's header and after the number before. Hands on 88-94.
 #[tactic(auto, using(verdicts::proofs::Chain::chain), unfolding(crate::specs::Judging::counter_rules))]
-fn counter(header: &[u8; Record::LENGTH], previous: u64, rec: &[u8; Record::LENGTH]) -> Result<u64, Fault>
+fn counter(
+    header: &[u8; Record::LENGTH],
+    previous: u64,
+    rec: &[u8; Record::LENGTH],
+) -> Result<u64, Fault>
     ensures says { check_of result ≡ counter_rules header.now previous rec.now }
     ensures hands { IfOk result (λ counter. counter ≡ number_in rec.now) }
 {
@@ -162,7 +167,11 @@ fn counter(header: &[u8; Record::LENGTH], previous: u64, rec: &[u8; Record::LENG
 
 // Positions 55 to 94. Hands on 88-94.
 #[tactic(auto, using(verdicts::proofs::Chain::chain), unfolding(crate::specs::Judging::closing_rules))]
-fn closing(header: &[u8; Record::LENGTH], previous: u64, rec: &[u8; Record::LENGTH]) -> Result<u64, Fault>
+fn closing(
+    header: &[u8; Record::LENGTH],
+    previous: u64,
+    rec: &[u8; Record::LENGTH],
+) -> Result<u64, Fault>
     ensures says { check_of result ≡ closing_rules header.now previous rec.now }
     ensures hands { IfOk result (λ counter. counter ≡ number_in rec.now) }
 {
@@ -174,7 +183,12 @@ fn closing(header: &[u8; Record::LENGTH], previous: u64, rec: &[u8; Record::LENG
 
 // A record without fault hands on its numbers, each of them read once.
 #[tactic(auto, using(verdicts::proofs::Chain::chain, crate::proofs::Chains::in_parts), unfolding(crate::specs::Judging::entry_of))]
-pub fn judge(terms: Terms, header: &[u8; Record::LENGTH], previous: u64, rec: &[u8; Record::LENGTH]) -> Result<Entry, Fault>
+pub fn judge(
+    terms: Terms,
+    header: &[u8; Record::LENGTH],
+    previous: u64,
+    rec: &[u8; Record::LENGTH],
+) -> Result<Entry, Fault>
     ensures says { check_of result ≡ individual (under terms.entry) header.now previous rec.now }
     ensures hands { IfOk result (λ entry. entry ≡ entry_of rec.now) }
 {

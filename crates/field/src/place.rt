@@ -14,10 +14,10 @@ impl Record {
 }
 
 // A record is one of the whole pieces of its length that the file has.
-#[tactic(auto, using(crate::proofs::Pieces::piece_at), unfolding(paper::specs::Reading::record_at))]
+#[tactic(auto, using(crate::proofs::Pieces::piece_at, crate::proofs::Pieces::piece_long), unfolding(paper::specs::Reading::record_at))]
 pub fn record_at(file: &[u8], place: usize) -> &[u8; Record::LENGTH]
     requires { InFile file.now place }
-    ensures { result.now ≡ record_at file.now place }
+    ensures { (result.now ≡ record_at file.now place) × (length result.now ≡ 94) }
 {
     let (records, _) = file.as_chunks::<{ Record::LENGTH }>();
     &records[place]

@@ -6,6 +6,7 @@ ghost use Rattle.verdicts.specs.Verdicts.{check_of, under};
 
 use characters::{number, text};
 use field::date;
+use field::place::Record;
 use paper::answer::Fault;
 use paper::rules::{Reader, Terms};
 use verdicts::member;

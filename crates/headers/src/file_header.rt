@@ -5,6 +5,7 @@ ghost use Rattle.paper.specs.Records.{origin_good, own_desk, headed, file_header
 ghost use Rattle.verdicts.specs.Verdicts.{check_of, under};
 
 use characters::{number, text};
+use field::place::Record;
 use field::{date, entity};
 use paper::answer::Fault;
 use paper::rules::{Currency, Reader, Terms};
