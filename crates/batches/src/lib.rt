@@ -8,6 +8,7 @@ ghost use Rattle.batches.specs.Blocks.{with_record};
 
 use controls::tally;
 use field::kind;
+use field::place::Record;
 use paper::record::{Kind, Tally};
 
 pub mod records;

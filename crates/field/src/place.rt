@@ -22,3 +22,11 @@ pub fn record_at(file: &[u8], place: usize) -> &[u8; Record::LENGTH]
     let (records, _) = file.as_chunks::<{ Record::LENGTH }>();
     &records[place]
 }
+
+// A part of a record's length, as a record.
+pub fn whole(part: &[u8]) -> &[u8; Record::LENGTH]
+    requires { length part.now ≡ 94 }
+    ensures { result.now ≡ part.now }
+{
+    part.first_chunk().unwrap()
+}

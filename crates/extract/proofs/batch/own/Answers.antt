@@ -4,7 +4,7 @@ use Rattle.extract.proofs.batch.own.Goals as goal
 use Rattle.extract.proofs.batch.own.Goals.{At-loop-place}
 
 pub count-tally-requires : goal.count-tally-requires
-count-tally-requires c = record { rec_len = c.record_at.ensures.1; below = search tally_below }
+count-tally-requires c = search tally_below
 
 pub loop-place-init : goal.loop-place-init
 loop-place-init c = none_copied _ _
