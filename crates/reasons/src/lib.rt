@@ -70,8 +70,7 @@ fn text_at(file: &[u8], place: usize) -> Shown
 
 // A 7 after a 36 or 31.
 #[tactic(auto, unfolding(paper::specs::Receiving::explains))]
-fn explains(kind: Kind, before: &[u8]) -> bool
-    requires { length before.now ≡ 94 }
+fn explains(kind: Kind, before: &[u8; Record::LENGTH]) -> bool
     ensures { result ≡ explains kind before.now }
 {
     match kind {

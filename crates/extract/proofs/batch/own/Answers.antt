@@ -24,8 +24,8 @@ pub slice_bounds-copy_from_slice-end : goal.slice_bounds-copy_from_slice-end
 slice_bounds-copy_from_slice-end c =
     room_for c.requires c.loop-i.invariant (own_here (goal.at.slice_bounds-copy_from_slice-end c).After-opens) (ap not c.if-opens.false)
 
-pub count-tally-requires-clause-below : goal.count-tally-requires-clause-below
-count-tally-requires-clause-below c = tally_below c.requires c.loop-i.invariant
+pub count-tally-requires : goal.count-tally-requires
+count-tally-requires c = record { below = tally_below c.requires c.loop-i.invariant }
 
 pub loop-i-preserved : goal.loop-i-preserved
 loop-i-preserved c =
