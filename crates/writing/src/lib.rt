@@ -1,10 +1,13 @@
 // Texts and numbers put into a lent buffer.
 #![tactic(auto)]
 
-ghost use Rattle.std.specs.Prelude.{◌≡◌, ◌+◌, ◌*◌, ◌^◌, ◌≤◌, min, length, take, drop, nat_abs};
+ghost use Rattle.std.specs.Prelude.{◌≡◌, ◌+◌, ◌*◌, ◌^◌, ◌≤◌, min, leb, length, take, drop, nat_abs};
+ghost use Rattle.paper.specs.Answers.{said, require};
 ghost use Rattle.paper.specs.Writing.{spelled, blanks};
 ghost use Rattle.paper.specs.Listing.{width, decimal, signed_decimal};
 ghost use Rattle.writing.specs.Laid.{laid};
+
+use paper::answer::{Fault, Refusal};
 
 // Eight bytes of a text over those at the same index: loads before stores, so that the compiler makes one of each, whatever it knows of what overlaps.
 fn eight(part: &mut [u8], text: &[u8], at: usize)
@@ -92,6 +95,17 @@ pub fn blanks(part: &mut [u8])
         part[i] = b' ';
         i += 1;
     }
+}
+
+// 206 of a buffer that is shorter than what is to be written.
+#[tactic(auto, using(paper::proofs::Chained::chained, std::proofs::lemmas::Bool::Decides::nat_tests))]
+pub fn room(size: usize, out: &[u8]) -> Result<(), Refusal>
+    ensures { said result ≡ require (leb size (length out.now)) 206 0 }
+{
+    if out.len() < size {
+        return Err(Fault::Room.at(0));
+    }
+    Ok(())
 }
 
 // Each of the following writes from index `at` on, and hands back the index after what it wrote.
