@@ -1,12 +1,9 @@
--- The part of a record that is lent is the field at the paper's positions.
-use Rattle.std.proofs.Common.{◌≡◌, ℕ, ◌+◌, ◌-◌, ◌<◌, ◌≤◌, List, [], ◌∷◌, ◌++◌, length, get_or, take, drop, ap, ◌∙◌, arith, length-drop, length-take, drop-cons, take-take, drop-drop, take-add}
+-- Fields of a record, and the parts that a field is made of.
+use Rattle.std.proofs.Common.{◌≡◌, ℕ, ◌+◌, ◌-◌, ◌<◌, ◌≤◌, List, [], ◌∷◌, ◌++◌, length, get_or, drop, ap, ◌∙◌, arith, length-drop, length-take, drop-cons, take-take, drop-drop, take-add}
 use Rattle.paper.specs.Fields.{field}
 use Rattle.characters.specs.Part.{HasField}
 
 module _ (r : List ℕ) (first last : ℕ) (h : HasField r first last) where
-  pub part_is : take (last - (first - 1)) (drop (first - 1) r) ≡ field r first last
-  part_is = let e : last - (first - 1) ≡ last + 1 - first = omega arith in rw e
-
   pub part_length : length (field r first last) ≡ last + 1 - first
   part_length = simp (length-take, length-drop) (omega arith)
 

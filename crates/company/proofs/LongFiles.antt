@@ -9,11 +9,11 @@ use borrow.Author.Tests.{lt-ltb, le-ltb, lt-leb, leb-true, leb-false}
 use lib.Dec.{leb, ltb, eqb}
 use lib.ListN.{length}
 use Rattle.paper.specs.declared.rules.Currency.{Currency}
-use Rattle.paper.specs.declared.answer.Answer.{Answer}
+use Rattle.std.specs.Prelude.{Some, None, Err}
+use Rattle.paper.specs.declared.answer.Refusal.{Refusal}
 use Rattle.paper.specs.Answers.{Said, accepted, refused, said, and_then, require}
 use Rattle.paper.specs.Buffers.{room_for, written}
 use Rattle.paper.proofs.Refusals.{and_then_assoc, required}
-use Rattle.tray.specs.declared.pieces.Known.TheVariants.{Finite, Endless}
 use Rattle.tray.specs.Seen.{most_seen}
 use Rattle.company.specs.declared.pieces.Pieces.{Pieces}
 use Rattle.company.specs.Files.{whole_details, details_of, lo_good, details_fault, closing_fault, company_answer, company_tray, company}
@@ -51,10 +51,10 @@ whole_so n = go (leb 250 n) refl
 
 -- what is told by what is known after its pieces is said of the whole
 -- (not so with a file without end taken for one that has ended, or with 206 before the closing record is judged)
-pub company_told : (currency : Currency) (lo file : List ℕ) (p : Pieces) → CompanySeen currency lo p file → (a : Answer) → CompanyTells p lo (Finite a)
-    → said a ≡ and_then (company_answer currency lo file) (refused 206 0)
+pub company_told : (currency : Currency) (lo file : List ℕ) (p : Pieces) → CompanySeen currency lo p file → (r : Refusal) → CompanyTells p lo (Some r)
+    → said (Err r) ≡ and_then (company_answer currency lo file) (refused 206 0)
 unfolding company_answer
-company_told currency lo file p s a t =
+company_told currency lo file p s r t =
     let w = s.whole t.0 in
     let ends = and_then (details_fault currency lo 0 (details_of file)) (closing_fault file) in
     let body = and_then (require (lo_good lo) 207 0) ends in
@@ -69,5 +69,5 @@ company_told currency lo file p s a t =
     ∙ sym (and_then_assoc whole body (refused 206 0))
 
 -- a file that is told to have no end has more than 2^60 records
-pub company_endless : (currency : Currency) (lo file : List ℕ) (p : Pieces) → CompanySeen currency lo p file → CompanyTells p lo Endless → most_seen < length file / 250
+pub company_endless : (currency : Currency) (lo file : List ℕ) (p : Pieces) → CompanySeen currency lo p file → CompanyTells p lo None → most_seen < length file / 250
 company_endless currency lo file p s t = s.endless t

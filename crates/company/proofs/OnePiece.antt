@@ -2,7 +2,7 @@
 use Prim.Native.Nat.{ℕ, suc, ◌+◌, ◌-◌, ◌*◌, ◌/◌, ◌≤◌}
 use mathlib.Core.Bool.{Bool}
 use mathlib.Core.List.{List, [], ◌∷◌, ◌++◌}
-use mathlib.Core.Path.{◌≡◌, sym, ap, ap₂, ◌∙◌}
+use mathlib.Core.Path.{◌≡◌, sym, ap, ◌∙◌}
 use native.Mathlib.Nat.{zero-add, add-zero, add_assoc}
 use native.Mathlib.Omega.{arith}
 use lib.ListN.{length, take, drop}
@@ -12,7 +12,7 @@ use Rattle.paper.specs.Answers.{Said, accepted, and_then, require}
 use Rattle.paper.specs.Fields.{number}
 use Rattle.paper.specs.Reading.{parts, at}
 use Rattle.paper.proofs.Lists.{length_parts, parts_add}
-use Rattle.paper.proofs.Refusals.{both_accept, and_then_assoc}
+use Rattle.paper.proofs.Refusals.{and_then_assoc}
 use Rattle.company.specs.Details.{cents_in, detail}
 use Rattle.company.specs.Files.{details_of, closing_of, details_fault, amounts_in, closing_good}
 use Rattle.company.specs.Sums.{kept}
@@ -57,11 +57,14 @@ module _ (piece : List ℕ) (h : 250 ≤ length piece) where
       ap (λ (n : ℕ). parts 250 n piece) e ∙ parts_add 250 last 1 piece ∙ ap (λ (r : List ℕ). parts 250 last piece ++ (r ∷ [])) one
 
   module _ (currency : Currency) (lo : List ℕ) (from sum : ℕ) where
-    pub all_judged : {a b : Said} → a ≡ details_fault currency lo from (parts 250 last piece) → b ≡ details_fault currency lo (from + last) tail
-        → and_then a b ≡ details_fault currency lo from (company_records piece)
-    all_judged p q =
-        ap₂ and_then p (q ∙ ap (λ (n : ℕ). details_fault currency lo (from + n) tail) (sym (length_parts 250 last piece)))
-        ∙ sym (ap (details_fault currency lo from) in_two ∙ faults_joined currency lo (parts 250 last piece) tail from)
+    pub all_judged : (before : Said) → and_then (and_then before (details_fault currency lo from (parts 250 last piece))) (details_fault currency lo (from + last) tail)
+        ≡ and_then before (details_fault currency lo from (company_records piece))
+    all_judged before =
+        let inner = parts 250 last piece in
+        and_then_assoc before (details_fault currency lo from inner) (details_fault currency lo (from + last) tail)
+        ∙ ap (and_then before)
+        (ap (λ (n : ℕ). and_then (details_fault currency lo from inner) (details_fault currency lo (from + n) tail)) (sym (length_parts 250 last piece))
+        ∙ sym (ap (details_fault currency lo from) in_two ∙ faults_joined currency lo inner tail from))
 
     pub all_added : {inner end : ℕ} → inner ≡ kept (sum + amounts_in (parts 250 last piece)) → end ≡ kept (inner + amounts_in tail)
         → end ≡ kept (sum + amounts_in (company_records piece))
@@ -81,15 +84,15 @@ module _ (piece : List ℕ) (h : 250 ≤ length piece) where
         ∙ ap (λ (b : Bool). require b 17 (from + last)) (closing_kept (from + last) (sum + amounts_in ds) r (closing_long piece h))
         ∙ ap (λ (n : ℕ). require (closing_good (from + n) (sum + amounts_in ds) r) 17 (from + n)) (sym (details_count piece))
 
-    pub last_closes : (before : Said) {found closed : Said} {inner : ℕ} → found ≡ details_fault currency lo from (parts 250 last piece)
-        → (found ≡ accepted → inner ≡ kept (sum + amounts_in (parts 250 last piece)))
-        → closed ≡ require (closing_good (from + last) inner (take 250 (drop (last * 250) piece))) 17 (from + last)
-        → and_then (and_then before found) closed
+    pub last_closes : (before : Said) {inner closed : Said} {total : ℕ} → inner ≡ and_then before (details_fault currency lo from (parts 250 last piece))
+        → (inner ≡ accepted → total ≡ kept (sum + amounts_in (parts 250 last piece)))
+        → closed ≡ and_then inner (require (closing_good (from + last) total (take 250 (drop (last * 250) piece))) 17 (from + last))
+        → closed
         ≡ and_then (and_then before (details_fault currency lo from (details_of piece)))
         (require (closing_good (from + length (details_of piece)) (sum + amounts_in (details_of piece)) (closing_of piece)) 17 (from + length (details_of piece)))
     unfolding details_of closing_of
-    last_closes before {found} {closed} {inner} f s c =
+    last_closes before {inner} {closed} {total} f s c =
         let ds = parts 250 last piece in
         let r = take 250 (drop (last * 250) piece) in
-        then_alike (and_then before found) (λ a. c ∙ closes_alike (s (both_accept before found a).1))
-        ∙ ap (λ (x : Said). and_then (and_then before x) (require (closing_good (from + length ds) (sum + amounts_in ds) r) 17 (from + length ds))) f
+        c ∙ then_alike inner (λ a. closes_alike (s a))
+        ∙ ap (λ (x : Said). and_then x (require (closing_good (from + length ds) (sum + amounts_in ds) r) 17 (from + length ds))) f

@@ -1,7 +1,7 @@
 -- The pass over the details, one further: the first fault, and the sum.
 use Prim.Native.Nat.{ℕ, ◌+◌, ◌≤◌, ◌<◌}
 use mathlib.Core.List.{List, [], ◌∷◌}
-use mathlib.Core.Path.{◌≡◌, sym, ap, ◌∙◌}
+use mathlib.Core.Path.{◌≡◌, refl, sym, ap, ◌∙◌}
 use native.Mathlib.Nat.{add-zero}
 use native.Mathlib.Numerals.{add-one}
 use native.Mathlib.Omega.{arith}
@@ -17,7 +17,7 @@ use Rattle.company.specs.Details.{cents_in, detail}
 use Rattle.company.specs.Files.{details_fault, amounts_in}
 use Rattle.company.specs.Sums.{kept}
 use Rattle.company.specs.Promised.{company_record_at}
-use Rattle.company.proofs.Kept.{kept_on}
+use Rattle.company.proofs.Kept.{kept_on, kept_twice}
 
 -- the details at the front
 abbrev pub front : ℕ → List ℕ → List (List ℕ)
@@ -32,17 +32,13 @@ module _ (file : List ℕ) (details place : ℕ) where
 
   -- the first fault
   module _ (currency : Currency) (lo : List ℕ) (from : ℕ) where
-    pub stops : place < details → {n : ℕ} → detail currency lo (company_record_at file place) ≡ wrong n
-        → details_fault currency lo (from + place) (drop place (front details file)) ≡ refused n (from + place)
-    unfolding details_fault and_then at
-    stops h e = rw (here h, e)
-
-    pub goes_on : place < details → detail currency lo (company_record_at file place) ≡ fine
-        → details_fault currency lo (from + place) (drop place (front details file)) ≡ details_fault currency lo (from + (place + 1)) (drop (place + 1) (front details file))
-    unfolding details_fault and_then at
-    goes_on h e =
+    pub one_judged : place < details
+        → details_fault currency lo (from + place) (drop place (front details file))
+        ≡ and_then (at (from + place) (detail currency lo (company_record_at file place))) (details_fault currency lo (from + (place + 1)) (drop (place + 1) (front details file)))
+    unfolding details_fault
+    one_judged h =
         let k : from + place + 1 ≡ from + (place + 1) = omega arith in
-        rw (here h, e) (ap (λ (n : ℕ). details_fault currency lo n (drop (place + 1) (front details file))) k)
+        rw (here h, k) refl
 
     pub ends : details ≤ place → details_fault currency lo (from + place) (drop place (front details file)) ≡ accepted
     unfolding details_fault
@@ -61,3 +57,14 @@ module _ (file : List ℕ) (details place : ℕ) where
   pub all_added : details ≤ place → (sum : ℕ) → kept (sum + amounts_in (drop place (front details file))) ≡ kept sum
   unfolding amounts_in
   all_added h sum = rw (none h, add-zero sum)
+
+pub at_fine : (place : ℕ) → at place fine ≡ accepted
+unfolding at
+at_fine place = refl
+
+pub at_wrong : (place n : ℕ) → at place (wrong n) ≡ refused n place
+unfolding at
+at_wrong place n = refl
+
+-- what the check needs of the pass
+pub ruleset passing = (one_judged, ends, one_added, all_added, kept_on, kept_twice, at_fine, at_wrong)

@@ -1,15 +1,13 @@
 -- A company's file looked at in pieces.
-use Rattle.std.specs.Prelude.{ℕ, ◌+◌, ◌/◌, ◌%◌, ◌≤◌, ◌<◌, Bool, true, false, ◌&&◌, List, ◌≡◌, leb, eqb, ltb, length}
+use Rattle.std.specs.Prelude.{ℕ, ◌+◌, ◌/◌, ◌%◌, ◌≤◌, ◌<◌, Bool, true, false, ◌&&◌, List, ◌≡◌, Option, Some, None, Ok, Err, leb, eqb, ltb, length}
 use Rattle.paper.specs.declared.rules.Currency.{Currency}
-use Rattle.paper.specs.declared.answer.Answer.TheVariants.{Accepted}
+use Rattle.paper.specs.declared.answer.Refusal.{Refusal}
 use Rattle.paper.specs.Answers.{Said, said, accepted, refused, and_then, require}
 use Rattle.paper.specs.Reading.{parts}
-use Rattle.tray.specs.declared.pieces.Known.{Known}
-use Rattle.tray.specs.declared.pieces.Known.TheVariants.{Finite, Endless}
 use Rattle.tray.specs.Seen.{most_seen}
 use Rattle.company.specs.declared.pieces.Pieces.{Pieces}
 use Rattle.company.specs.Files.{details_of, closing_of, lo_good, details_fault, amounts_in, closing_good, closing_fault}
-use Rattle.company.specs.Sums.{kept}
+use Rattle.company.specs.Sums.{kept, judged, sum_in}
 
 -- all whole records, that which may close the file among them
 abbrev pub company_records : List ℕ → List (List ℕ)
@@ -17,14 +15,14 @@ company_records file = parts 250 (length file / 250) file
 
 -- before any piece
 abbrev pub company_begun : Currency → Pieces
-company_begun currency = record { currency = currency; going = Accepted; ending = Accepted; records = 0; sum = 0; left = 0 }
+company_begun currency = record { currency = currency; going = Ok 0; ending = Ok tt; records = 0; left = 0 }
 
 -- ---- all of the file was looked at
 
 -- under an LO body of 94 bytes this was found: each record judged as a detail; and the last taken for the closing record
 pub record JudgedSo (currency : Currency) (lo : List ℕ) (p : Pieces) (file : List ℕ) : Type 0 where
-  pub going : said p.going ≡ details_fault currency lo 0 (company_records file)
-  pub sum : said p.going ≡ accepted → p.sum ≡ kept (amounts_in (company_records file))
+  pub going : judged p.going ≡ details_fault currency lo 0 (company_records file)
+  pub sum : judged p.going ≡ accepted → sum_in p.going ≡ kept (amounts_in (company_records file))
   pub ending : 250 ≤ length file → said p.ending ≡ and_then (details_fault currency lo 0 (details_of file)) (closing_fault file)
 
 pub record CompanyWhole (currency : Currency) (lo : List ℕ) (p : Pieces) (file : List ℕ) : Type 0 where
@@ -40,19 +38,14 @@ pub record CompanySeen (currency : Currency) (lo : List ℕ) (p : Pieces) (file 
 
 -- ---- one piece more
 
--- a sum counts as long as no record is at fault
-abbrev pub sum_if : Said → ℕ → ℕ
-sum_if accepted n = n
-sum_if (refused number place) n = 0
-
 -- it was judged: its records go on from those before it
 pub record CompanyMore (p : Pieces) (lo piece : List ℕ) (r : Pieces) : Type 0 where
   pub money : r.currency ≡ p.currency
-  pub going : said r.going ≡ and_then (said p.going) (details_fault p.currency lo p.records (company_records piece))
-  pub sum : r.sum ≡ sum_if (said r.going) (kept (p.sum + amounts_in (company_records piece)))
+  pub going : judged r.going ≡ and_then (judged p.going) (details_fault p.currency lo p.records (company_records piece))
+  pub sum : judged r.going ≡ accepted → sum_in r.going ≡ kept (sum_in p.going + amounts_in (company_records piece))
   pub ending : said r.ending
-      ≡ and_then (and_then (said p.going) (details_fault p.currency lo p.records (details_of piece)))
-      (require (closing_good (p.records + length (details_of piece)) (p.sum + amounts_in (details_of piece)) (closing_of piece)) 17 (p.records + length (details_of piece)))
+      ≡ and_then (and_then (judged p.going) (details_fault p.currency lo p.records (details_of piece)))
+      (require (closing_good (p.records + length (details_of piece)) (sum_in p.going + amounts_in (details_of piece)) (closing_of piece)) 17 (p.records + length (details_of piece)))
   pub records : r.records ≡ p.records + length piece / 250
   pub left : r.left ≡ length piece % 250
 
@@ -63,7 +56,6 @@ counted_on p piece = record {
   going = p.going;
   ending = p.ending;
   records = p.records + length piece / 250;
-  sum = p.sum;
   left = length piece % 250;
 }
 
@@ -87,6 +79,6 @@ long_company p lo =
     (and_then (said p.ending) (refused 206 0)))
 
 -- it is given of a file that has an end, and of no other
-abbrev pub CompanyTells : Pieces → List ℕ → Known → Type 0
-CompanyTells p lo (Finite a) = (p.records ≤ most_seen) × (said a ≡ long_company p lo)
-CompanyTells p lo Endless = most_seen < p.records
+abbrev pub CompanyTells : Pieces → List ℕ → Option Refusal → Type 0
+CompanyTells p lo (Some r) = (p.records ≤ most_seen) × (said (Err r) ≡ long_company p lo)
+CompanyTells p lo None = most_seen < p.records

@@ -1,5 +1,5 @@
 // The closing record: it counts the details, and adds up their amounts.
-ghost use Rattle.std.specs.Prelude.{◌≡◌, ◌+◌, ◌^◌, ◌<◌, length};
+ghost use Rattle.std.specs.Prelude.{◌≡◌, ◌+◌, length};
 ghost use Rattle.company.specs.Files.{closing_good};
 ghost use Rattle.company.specs.Sums.{kept};
 
@@ -9,18 +9,15 @@ use characters::{number, text};
 const BEYOND: u64 = 10000000000;
 
 // A sum with an amount added.
+#[tactic(auto, using(std::proofs::lemmas::Bool::Decides::nat_tests), unfolding(crate::specs::Sums::kept))]
 pub fn added(sum: u64, amount: u64) -> u64
-    requires { amount < 10 ^ 10 }
     ensures { result ≡ kept (sum + amount) }
 {
-    let room = BEYOND - amount;
-    if sum < room {
-        return sum + amount;
-    }
-    BEYOND
+    sum.saturating_add(amount).min(BEYOND)
 }
 
 // After so many details with this sum.
+#[tactic(auto, unfolding(crate::specs::Files::closing_good))]
 pub fn good(rec: &[u8], details: u64, sum: u64) -> bool
     requires { length rec.now ≡ 250 }
     ensures { result ≡ closing_good details sum rec.now }

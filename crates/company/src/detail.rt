@@ -10,7 +10,7 @@ use characters::{number, text, word};
 use field::individual;
 use paper::answer::Fault;
 use paper::rules::Currency;
-use verdicts::verdict::Verdict;
+use verdicts::verdict::need;
 
 // The entity in block 1.
 pub fn entity(rec: &[u8]) -> u64
@@ -28,6 +28,7 @@ pub fn amount(rec: &[u8]) -> u64
     individual::cents(rec, 104)
 }
 
+#[tactic(auto, unfolding(crate::specs::Details::text_good))]
 fn text_good(rec: &[u8], first: usize, last: usize) -> bool
     requires has_field { HasField rec.now first last }
     requires first_bound { first + 7 ≤ last }
@@ -48,6 +49,7 @@ fn texts_good(rec: &[u8]) -> bool
     text_good(rec, 89, 103) & text_good(rec, 59, 80)
 }
 
+#[tactic(auto, unfolding(crate::specs::Details::currency_good))]
 fn currency_good(currency: Currency, rec: &[u8]) -> bool
     requires { length rec.now ≡ 250 }
     ensures { result ≡ currency_good currency rec.now }
@@ -59,6 +61,7 @@ fn currency_good(currency: Currency, rec: &[u8]) -> bool
 }
 
 // A date ddmmaaaa that is the LO body's AAMMDD is one exactly where that is, which is asked once for a file.
+#[tactic(auto, using(crate::proofs::Dates::due_by_parts))]
 fn due_good(lo: &[u8], dated: bool, rec: &[u8]) -> bool
     requires lo_len { (length lo.now ≡ 94) × (length rec.now ≡ 250) }
     requires dated_value { dated ≡ date_field (field lo.now 70 75) }
@@ -72,22 +75,28 @@ fn due_good(lo: &[u8], dated: bool, rec: &[u8]) -> bool
 }
 
 // Whether the LO body has a date, and the detail's amount, are found before.
-pub fn judge(currency: Currency, lo: &[u8], dated: bool, rec: &[u8], amount: u64) -> Verdict
+#[tactic(auto, using(verdicts::proofs::Chain::chain, characters::proofs::Value::some_number), unfolding(crate::specs::Details::detail))]
+pub fn judge(
+    currency: Currency,
+    lo: &[u8],
+    dated: bool,
+    rec: &[u8],
+    amount: u64,
+) -> Result<(), Fault>
     requires lo_len { (length lo.now ≡ 94) × (length rec.now ≡ 250) }
     requires dated_value { dated ≡ date_field (field lo.now 70 75) }
     requires amount_value { amount ≡ number (cents_in rec.now) }
     ensures { check_of result ≡ detail currency lo.now rec.now }
 {
     let account = word::digits(rec, 34, 41) & word::wide_digits(rec, 45, 58);
-    Verdict::Right
-        .need(text::reads(rec, 1, 1, b"D"), Fault::Format)
-        .need(account, Fault::Format)
-        .need(
-            number::within(1, Currency::LAST, entity(rec)),
-            Fault::Format,
-        )
-        .need(texts_good(rec), Fault::Format)
-        .need(currency_good(currency, rec), Fault::Currency)
-        .need(0 < amount, Fault::Amount)
-        .need(due_good(lo, dated, rec), Fault::Date)
+    need(text::reads(rec, 1, 1, b"D"), Fault::Format)?;
+    need(account, Fault::Format)?;
+    need(
+        number::within(1, Currency::LAST, entity(rec)),
+        Fault::Format,
+    )?;
+    need(texts_good(rec), Fault::Format)?;
+    need(currency_good(currency, rec), Fault::Currency)?;
+    need(0 < amount, Fault::Amount)?;
+    need(due_good(lo, dated, rec), Fault::Date)
 }

@@ -1,20 +1,18 @@
 // A company's file of 250-byte records, made into a tray.
 #![tactic(auto)]
 
-ghost use Rattle.std.specs.Prelude.{◌≡◌, ◌+◌, ◌-◌, ◌*◌, ◌^◌, ◌≤◌, leb, length, take, drop};
+ghost use Rattle.std.specs.Prelude.{◌≡◌, ◌+◌, ◌*◌, ◌^◌, ◌≤◌, length};
 ghost use Rattle.paper.specs.Answers.{said, accepted, and_then, require};
 ghost use Rattle.paper.specs.Buffers.{told, over};
 ghost use Rattle.paper.specs.Reading.{parts};
 ghost use Rattle.company.specs.Files.{lo_good, details_fault, amounts_in, closing_good, company_answer, orders_of, tray_of, company};
-ghost use Rattle.company.specs.Sums.{kept};
+ghost use Rattle.company.specs.Sums.{kept, judged, sum_in};
 
-use characters::text::part;
 use field::date;
 use field::place::Record;
-use paper::answer::{Answer, Fault, Output};
+use paper::answer::{Fault, Refusal};
 use paper::rules::Currency;
-use tray::Tray;
-use verdicts::verdict::Verdict;
+use tray::{Tray, record_at};
 use writing::text;
 
 mod closing;
@@ -30,97 +28,69 @@ impl Company {
     pub const RECORD: usize = 250;
 }
 
-fn record_at(file: &[u8], place: usize) -> &[u8]
-    requires { place * 250 + 250 ≤ length file.now }
-    ensures { (result.now ≡ take 250 (drop (place * 250) file.now)) × (length result.now ≡ 250) }
-{
-    let at = place * Company::RECORD;
-    part(file, at + 1, at + Company::RECORD)
-}
-
 // 207 of an LO body.
+#[tactic(auto, using(std::proofs::lemmas::Bool::Decides::nat_tests), unfolding(crate::specs::Files::lo_good))]
 fn lo_good(lo: &[u8]) -> bool
     ensures { result ≡ lo_good lo.now }
 {
-    if lo.len() != Record::LENGTH {
-        return false;
-    }
-    tray::good(b"LO", lo)
+    lo.len() == Record::LENGTH && tray::good(b"LO", lo)
 }
 
-// The first fault of some details; where there is none, their sum with what was added up before them, as a field of ten digits can tell it.
-#[derive(Clone, Copy)]
-struct Found {
-    faults: Answer,
+// The details at the front of a file, or of a piece of one whose first is at place `from`: their sum with what was added up before them, as a field of ten
+// digits can tell it; or the first fault.
+#[tactic(auto, using(crate::proofs::Passing::passing, verdicts::proofs::Chain::chain, paper::proofs::Chained::chained))]
+fn judge(
+    currency: Currency,
+    lo: &[u8],
+    file: &[u8],
+    details: usize,
+    from: usize,
     sum: u64,
-}
-
-// The details at the front of a file, or of a piece of one whose first is at place `from`.
-fn judge(currency: Currency, lo: &[u8], file: &[u8], details: usize, from: usize, sum: u64) -> Found
+) -> Result<u64, Refusal>
     requires { (length lo.now ≡ 94) × (details * 250 ≤ length file.now) × (from ≤ 2 ^ 61) }
-    ensures { (said result.faults ≡ details_fault currency lo.now from (parts 250 details file.now))
-        × (said result.faults ≡ accepted → result.sum ≡ kept (sum + amounts_in (parts 250 details file.now))) }
+    ensures first_fault { judged result ≡ details_fault currency lo.now from (parts 250 details file.now) }
+    ensures total { judged result ≡ accepted → sum_in result ≡ kept (sum + amounts_in (parts 250 details file.now)) }
 {
     let dated = date::date(lo, 70, 75);
     let mut total = closing::added(sum, 0);
-    let mut place: usize = 0;
-    while place < details {
-        let rec = record_at(file, place);
+    for place in 0..details {
+        let rec = record_at::<{ Company::RECORD }>(file, place);
         let amount = detail::amount(rec);
-        let verdict = detail::judge(currency, lo, dated, rec, amount);
-        if let Verdict::Wrong(fault) = verdict {
-            return Found {
-                faults: Answer::Refused(fault, from + place),
-                sum: total,
-            };
+        if let Err(fault) = detail::judge(currency, lo, dated, rec, amount) {
+            return Err(fault.at(from + place));
         }
         total = closing::added(total, amount);
-        place += 1;
     }
-    Found {
-        faults: Answer::Accepted,
-        sum: total,
-    }
+    Ok(total)
 }
 
 // 17 at the closing record, after so many details with this sum.
-fn close(rec: &[u8], details: usize, sum: u64) -> Answer
+#[tactic(auto, using(paper::proofs::Chained::chained))]
+fn close(rec: &[u8], details: usize, sum: u64) -> Result<(), Refusal>
     requires { length rec.now ≡ 250 }
     ensures { said result ≡ require (closing_good details sum rec.now) 17 details }
 {
-    if closing::good(rec, details as u64, sum) {
-        return Answer::Accepted;
+    if !closing::good(rec, details as u64, sum) {
+        return Err(Fault::Format.at(details));
     }
-    Answer::Refused(Fault::Format, details)
+    Ok(())
 }
 
 // 201, 207, each detail's, and 17 at the last.
-fn answer(currency: Currency, lo: &[u8], file: &[u8]) -> Answer
+#[tactic(auto, using(paper::proofs::Chained::chained, std::proofs::lemmas::Bool::Decides::nat_tests, crate::proofs::Answering::body_long, crate::proofs::Answering::closes), unfolding(crate::specs::Files::company_answer, crate::specs::Files::whole_details, crate::specs::Files::details_of))]
+fn answer(currency: Currency, lo: &[u8], file: &[u8]) -> Result<(), Refusal>
     ensures { said result ≡ company_answer currency lo.now file.now }
 {
-    if file.len() < Company::RECORD {
-        return Answer::Refused(Fault::Length, 0);
-    }
-    if file.len() % Company::RECORD != 0 {
-        return Answer::Refused(Fault::Length, 0);
+    if file.len() < Company::RECORD || file.len() % Company::RECORD != 0 {
+        return Err(Fault::Length.at(0));
     }
     if !lo_good(lo) {
-        return Answer::Refused(Fault::Tray, 0);
+        return Err(Fault::Tray.at(0));
     }
     let details = file.len() / Company::RECORD - 1;
-    let found = judge(currency, lo, file, details, 0, 0);
-    let faults = found.faults;
-    faults.and_then(close(record_at(file, details), details, found.sum))
-}
-
-// 206 of a tray of so many records, for a buffer of so many bytes.
-fn room(records: usize, lent: usize) -> Answer
-    ensures { said result ≡ require (leb (records * 96) lent) 206 0 }
-{
-    if lent / Tray::RECORD < records {
-        return Answer::Refused(Fault::Room, 0);
-    }
-    Answer::Accepted
+    let sum = judge(currency, lo, file, details, 0, 0)?;
+    let closing = record_at::<{ Company::RECORD }>(file, details);
+    close(closing, details, sum)
 }
 
 // An order for each detail, each over its own part.
@@ -128,16 +98,14 @@ fn orders(dst: &mut [u8], currency: Currency, lo: &[u8], file: &[u8], details: u
     requires { (length lo.now ≡ 94) × (details * 250 ≤ length file.now) × (details * 96 ≤ length dst.old) }
     ensures { dst.new ≡ over (orders_of currency lo.now (parts 250 details file.now)) dst.old }
 {
-    let mut place: usize = 0;
-    while place < details {
+    for place in 0..details {
         let at = place * Tray::RECORD;
         order::write(
             &mut dst[at..at + Tray::RECORD],
             currency,
             lo,
-            record_at(file, place),
+            record_at::<{ Company::RECORD }>(file, place),
         );
-        place += 1;
     }
 }
 
@@ -152,15 +120,14 @@ fn write(out: &mut [u8], currency: Currency, lo: &[u8], file: &[u8], details: us
 }
 
 // A company's file made into a tray, under this LO body. Nothing is written before all of it is judged.
-pub fn tray(currency: Currency, lo: &[u8], file: &[u8], out: &mut [u8]) -> Output
+#[tactic(auto, using(paper::proofs::Chained::chained, std::proofs::lemmas::Bool::Decides::nat_tests, crate::proofs::Answering::tray_size, crate::proofs::Answering::accepted_so), unfolding(crate::specs::Files::company, crate::specs::Files::details_of, paper::specs::Buffers::room_for))]
+pub fn tray(currency: Currency, lo: &[u8], file: &[u8], out: &mut [u8]) -> Result<usize, Refusal>
     ensures { told result out.new ≡ company currency lo.now file.now out.old }
 {
     let records = file.len() / Company::RECORD;
-    let judged = answer(currency, lo, file);
-    let answer = judged.and_then(room(records, out.len()));
-    let Answer::Accepted = answer else {
-        return Output::unwritten(answer);
-    };
+    let size = records * Tray::RECORD;
+    answer(currency, lo, file)?;
+    writing::room(size, out)?;
     write(out, currency, lo, file, records - 1);
-    Output::Accepted(records * Tray::RECORD)
+    Ok(size)
 }

@@ -1,40 +1,56 @@
 // A company's file that no buffer holds: looked at in pieces of whole records, it is refused as the whole is, else for want of room.
-ghost use Rattle.std.specs.Prelude.{◌≡◌, ◌≤◌, length};
-ghost use Rattle.paper.specs.Answers.{said};
+ghost use Rattle.std.specs.Prelude.{◌≡◌, ◌+◌, ◌*◌, ◌^◌, ◌≤◌, length};
+ghost use Rattle.paper.specs.Answers.{said, accepted, and_then, require};
+ghost use Rattle.paper.specs.Reading.{parts};
 ghost use Rattle.tray.specs.Seen.{most_seen};
-ghost use Rattle.company.specs.Seen.{company_begun, sum_if, CompanyMore, counted_on, CompanyOn, CompanyTells};
+ghost use Rattle.company.specs.Files.{details_fault, amounts_in, closing_good};
+ghost use Rattle.company.specs.Sums.{kept, judged, sum_in};
+ghost use Rattle.company.specs.Seen.{company_begun, CompanyMore, counted_on, CompanyOn, CompanyTells};
 
-use crate::{Company, close, judge, lo_good, record_at};
+use crate::{Company, close, judge, lo_good};
 use field::place::Record;
-use paper::answer::{Answer, Fault};
+use paper::answer::{Fault, Refusal};
 use paper::rules::Currency;
-use tray::pieces;
-use tray::pieces::Known;
+use tray::{pieces, record_at};
 
 // What is known after some pieces.
 #[derive(Clone, Copy)]
 pub struct Pieces {
     currency: Currency,
-    // the first fault of all records, each judged as a detail
-    going: Answer,
+    // all records judged as details: their sum, as a field of ten digits can tell it, or the first fault
+    going: Result<u64, Refusal>,
     // the first fault where the last of them closes the file
-    ending: Answer,
+    ending: Result<(), Refusal>,
     // whole records
     records: usize,
-    // their sum, as a field of ten digits can tell it; 0 where one is at fault
-    sum: u64,
     // bytes after the last whole record
     left: usize,
 }
 
-// A sum counts as long as no record is at fault.
-fn kept_if(faults: Answer, sum: u64) -> u64
-    ensures { result ≡ sum_if (said faults) sum }
+// Details that come after others, unless there was a fault before.
+#[tactic(auto, using(paper::proofs::Chained::chained))]
+fn judge_on(
+    before: Result<u64, Refusal>,
+    currency: Currency,
+    lo: &[u8],
+    file: &[u8],
+    details: usize,
+    from: usize,
+) -> Result<u64, Refusal>
+    requires { (length lo.now ≡ 94) × (details * 250 ≤ length file.now) × (from ≤ 2 ^ 61) }
+    ensures first_fault { judged result ≡ and_then (judged before) (details_fault currency lo.now from (parts 250 details file.now)) }
+    ensures total { judged result ≡ accepted → sum_in result ≡ kept (sum_in before + amounts_in (parts 250 details file.now)) }
 {
-    match faults {
-        Answer::Accepted => sum,
-        Answer::Refused(_, _) => 0,
-    }
+    judge(currency, lo, file, details, from, before?)
+}
+
+// The closing record after others, unless there was a fault before.
+#[tactic(auto, using(paper::proofs::Chained::chained))]
+fn close_on(before: Result<u64, Refusal>, rec: &[u8], details: usize) -> Result<(), Refusal>
+    requires { length rec.now ≡ 250 }
+    ensures { said result ≡ and_then (judged before) (require (closing_good details (sum_in before) rec.now) 17 details) }
+{
+    close(rec, details, before?)
 }
 
 impl Pieces {
@@ -43,10 +59,9 @@ impl Pieces {
     {
         Pieces {
             currency,
-            going: Answer::Accepted,
-            ending: Answer::Accepted,
+            going: Ok(0),
+            ending: Ok(()),
             records: 0,
-            sum: 0,
             left: 0,
         }
     }
@@ -56,25 +71,16 @@ impl Pieces {
         requires { (length lo.now ≡ 94) × (250 ≤ length piece.now) × (self.records ≤ most_seen) }
         ensures { CompanyMore self lo.now piece.now result }
     {
-        let currency = self.currency;
-        let going = self.going;
         let last = piece.len() / Company::RECORD - 1;
         let place = self.records + last;
-        let inner = judge(currency, lo, piece, last, self.records, self.sum);
-        let rec = record_at(piece, last);
-        let end = judge(currency, lo, rec, 1, place, inner.sum);
-        let inner_faults = inner.faults;
-        let before = going.and_then(inner_faults);
-        let end_faults = end.faults;
-        let all = before.and_then(end_faults);
-        let closed = close(rec, place, inner.sum);
+        let rec = record_at::<{ Company::RECORD }>(piece, last);
+        let inner = judge_on(self.going, self.currency, lo, piece, last, self.records);
         Pieces {
-            currency,
-            going: all,
-            ending: before.and_then(closed),
+            going: judge_on(inner, self.currency, lo, rec, 1, place),
+            ending: close_on(inner, rec, place),
             records: place + 1,
-            sum: kept_if(all, end.sum),
             left: piece.len() % Company::RECORD,
+            ..self
         }
     }
 
@@ -83,52 +89,41 @@ impl Pieces {
         requires { self.records ≤ most_seen }
         ensures { result ≡ counted_on self piece.now }
     {
-        let currency = self.currency;
-        let going = self.going;
-        let ending = self.ending;
         Pieces {
-            currency,
-            going,
-            ending,
             records: self.records + piece.len() / Company::RECORD,
-            sum: self.sum,
             left: piece.len() % Company::RECORD,
+            ..self
         }
     }
 
     // The next piece of the file, under that LO body.
+    #[tactic(auto, using(std::proofs::lemmas::Bool::Decides::nat_tests))]
     pub fn read(self, lo: &[u8], piece: &[u8]) -> Pieces
         ensures { CompanyOn self lo.now piece.now result }
     {
         if self.records > pieces::Pieces::MOST {
             return self;
         }
-        if lo.len() != Record::LENGTH {
-            return self.counted(piece);
-        }
-        if piece.len() < Company::RECORD {
+        if lo.len() != Record::LENGTH || piece.len() < Company::RECORD {
             return self.counted(piece);
         }
         self.further(lo, piece)
     }
 
-    // 201, 207, the first fault of the records, and last 206.
-    pub fn answer(self, lo: &[u8]) -> Known
+    // 201, 207, the first fault of the records, and last 206. Nothing can be told of a file without end.
+    #[tactic(auto, using(paper::proofs::Chained::chained, std::proofs::lemmas::Bool::Decides::nat_tests))]
+    pub fn answer(self, lo: &[u8]) -> Option<Refusal>
         ensures { CompanyTells self lo.now result }
     {
         if self.records > pieces::Pieces::MOST {
-            return Known::Endless;
+            return None;
         }
-        if self.records == 0 {
-            return Known::Finite(Answer::Refused(Fault::Length, 0));
-        }
-        if self.left != 0 {
-            return Known::Finite(Answer::Refused(Fault::Length, 0));
+        if self.records == 0 || self.left != 0 {
+            return Some(Fault::Length.at(0));
         }
         if !lo_good(lo) {
-            return Known::Finite(Answer::Refused(Fault::Tray, 0));
+            return Some(Fault::Tray.at(0));
         }
-        let ending = self.ending;
-        Known::Finite(ending.and_then(Answer::Refused(Fault::Room, 0)))
+        Some(self.ending.err().unwrap_or(Fault::Room.at(0)))
     }
 }

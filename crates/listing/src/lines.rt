@@ -75,9 +75,7 @@ pub fn write(cells: [Cell; Rules::ROSTER], out: &mut [u8; Listing::ROOM]) -> usi
 {
     let mut at = writing::text(out, 0, b"ENTITY SENT RECEIVED NET\n");
     let mut sums = Cell::ZERO;
-    let mut n: usize = 0;
-    while n < Session::EVERYBODY {
-        n += 1;
+    for n in 1..=Session::EVERYBODY {
         let c = cells[n];
         at = entity(out, at, n as u64, c);
         sums = plus(sums, c);

@@ -18,21 +18,9 @@ fn copy(part: &mut [u8], text: &[u8])
     requires { length part.old ≡ length text.now }
     ensures { part.new ≡ shown text.now }
 {
-    let mut i: usize = 0;
-    while i < text.len() {
-        part[i] = byte(text[i]);
-        i += 1;
+    for (i, b) in text.iter().enumerate() {
+        part[i] = byte(*b);
     }
-}
-
-// How many bytes of a text are its first, at most so many.
-fn first(text: &[u8], most: usize) -> usize
-    ensures { (take result text.now ≡ take most text.now) × (result ≤ most) × (result ≤ length text.now) }
-{
-    if text.len() < most {
-        return text.len();
-    }
-    most
 }
 
 // A text's first bytes, at most so many, from index `at` on; hands back the index after them.
@@ -41,7 +29,7 @@ pub fn text(out: &mut [u8], at: usize, text: &[u8], most: usize) -> usize
     ensures { (result ≡ at + length (shown (take most text.now)))
         × (out.new ≡ laid at (shown (take most text.now)) out.old) }
 {
-    let n = first(text, most);
+    let n = most.min(text.len());
     let end = at + n;
     copy(&mut out[at..end], &text[..n]);
     end

@@ -4,9 +4,9 @@ use native.Mathlib.Omega.{arith}
 use mathlib.Core.List.{List, [], ◌++◌}
 use mathlib.Core.Path.{◌≡◌, sym, subst}
 use lib.ListN.{length}
-use Rattle.paper.specs.declared.answer.Answer.{Answer}
+use Rattle.std.specs.Prelude.{Some, None, Err}
+use Rattle.paper.specs.declared.answer.Refusal.{Refusal}
 use Rattle.paper.specs.Answers.{said}
-use Rattle.tray.specs.declared.pieces.Known.TheVariants.{Finite, Endless}
 use Rattle.tray.specs.Seen.{most_seen}
 use Rattle.tray.proofs.ByPieces.{seen_on, seen_told, seen_endless}
 use Rattle.company.specs.declared.pieces.Pieces.{Pieces}
@@ -35,15 +35,15 @@ sought_on (form.Company currency) body (sought.Tray p) after bytes piece s whole
 sought_on (form.Company currency) body (sought.Company p) (sought.Tray r) bytes piece s whole o = absurd o
 sought_on (form.Company currency) body (sought.Company p) (sought.Company r) bytes piece s whole o = company_on currency body p r bytes piece s whole o
 
-pub sought_told : (form : Form) (body : List ℕ) (s : Sought) (bytes : List ℕ) (a : Answer) → SeenOf form body s bytes → TellsOf s body (Finite a)
-    → said a ≡ long_said form body bytes
-sought_told form.Tray body (sought.Tray p) bytes a seen t = seen_told p body bytes a seen t
-sought_told form.Tray body (sought.Company p) bytes a seen t = absurd seen
-sought_told (form.Company currency) body (sought.Tray p) bytes a seen t = absurd seen
-sought_told (form.Company currency) body (sought.Company p) bytes a seen t = company_told currency body bytes p seen a t
+pub sought_told : (form : Form) (body : List ℕ) (s : Sought) (bytes : List ℕ) (r : Refusal) → SeenOf form body s bytes → TellsOf s body (Some r)
+    → said (Err r) ≡ long_said form body bytes
+sought_told form.Tray body (sought.Tray p) bytes r seen t = seen_told p body bytes r seen t
+sought_told form.Tray body (sought.Company p) bytes r seen t = absurd seen
+sought_told (form.Company currency) body (sought.Tray p) bytes r seen t = absurd seen
+sought_told (form.Company currency) body (sought.Company p) bytes r seen t = company_told currency body bytes p seen r t
 
 -- what is told to have no end has more bytes than any source hands over
-pub sought_endless : (form : Form) (body : List ℕ) (s : Sought) (bytes : List ℕ) → SeenOf form body s bytes → TellsOf s body Endless → most_seen < length bytes
+pub sought_endless : (form : Form) (body : List ℕ) (s : Sought) (bytes : List ℕ) → SeenOf form body s bytes → TellsOf s body None → most_seen < length bytes
 sought_endless form.Tray body (sought.Tray p) bytes seen t = omega (arith, seen_endless p body bytes seen t)
 sought_endless form.Tray body (sought.Company p) bytes seen t = absurd seen
 sought_endless (form.Company currency) body (sought.Tray p) bytes seen t = absurd seen

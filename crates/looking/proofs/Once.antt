@@ -3,7 +3,8 @@ use Prim.Native.Nat.{ℕ}
 use mathlib.Core.List.{List}
 use mathlib.Core.Path.{◌≡◌, sym, ap, ◌∙◌}
 use Rattle.watch.specs.declared.Watch.{Watch}
-use Rattle.tray.specs.declared.pieces.Known.{Known}
+use Rattle.std.specs.Prelude.{Option}
+use Rattle.paper.specs.declared.answer.Refusal.{Refusal}
 use Rattle.tray.proofs.Once.{begun_once, read_once, tells_once}
 use Rattle.company.proofs.Once.{company_read_once, company_tells_once}
 use Rattle.looking.specs.declared.Form.{Form}
@@ -31,7 +32,7 @@ sought_read_once (sought.Company p) body piece (sought.Tray r) q s t = absurd s
 sought_read_once (sought.Company p) body piece (sought.Company r) (sought.Tray q) s t = absurd t
 sought_read_once (sought.Company p) body piece (sought.Company r) (sought.Company q) s t = ap sought.Company (company_read_once p body piece r q s t)
 
-sought_tells_once : (known : Sought) (body : List ℕ) (r q : Known) → TellsOf known body r → TellsOf known body q → r ≡ q
+sought_tells_once : (known : Sought) (body : List ℕ) (r q : Option Refusal) → TellsOf known body r → TellsOf known body q → r ≡ q
 sought_tells_once (sought.Tray p) body r q s t = tells_once p body r q s t
 sought_tells_once (sought.Company p) body r q s t = company_tells_once p body r q s t
 
@@ -47,5 +48,5 @@ pub look_read_once : (before : Look) (body piece : List ℕ) (l m : Look) → Lo
 look_read_once before body piece l m a b =
     same_look l m (sought_read_once (sought_in before) body piece (sought_in l) (sought_in m) a.seen b.seen) (a.watch ∙ sym b.watch)
 
-pub look_answer_once : (l : Look) (body : List ℕ) (r q : Known) → TellsOf (sought_in l) body r → TellsOf (sought_in l) body q → r ≡ q
+pub look_answer_once : (l : Look) (body : List ℕ) (r q : Option Refusal) → TellsOf (sought_in l) body r → TellsOf (sought_in l) body q → r ≡ q
 look_answer_once l body r q s t = sought_tells_once (sought_in l) body r q s t

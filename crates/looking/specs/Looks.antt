@@ -1,8 +1,8 @@
 -- What is looked at in pieces, by its form, and watched. The fields of a look are private: other specs speak of them by these words.
-use Rattle.std.specs.Prelude.{ℕ, List, [], ◌≡◌}
+use Rattle.std.specs.Prelude.{ℕ, List, [], ◌≡◌, Option}
 use Rattle.watch.specs.declared.Watch.{Watch}
 use Rattle.watch.specs.Watches.{place_of, watch_at, watch_on}
-use Rattle.tray.specs.declared.pieces.Known.{Known}
+use Rattle.paper.specs.declared.answer.Refusal.{Refusal}
 use Rattle.tray.specs.Seen.{Seen, ReadOn, Tells}
 use Rattle.company.specs.Seen.{company_begun, CompanySeen, CompanyOn, CompanyTells}
 use Rattle.looking.specs.declared.Form.{Form}
@@ -35,7 +35,7 @@ SoughtOn (sought.Company p) body piece (sought.Tray r) = ⊥
 SoughtOn (sought.Company p) body piece (sought.Company r) = CompanyOn p body piece r
 
 -- what is told after all pieces
-abbrev pub TellsOf : Sought → List ℕ → Known → Type 0
+abbrev pub TellsOf : Sought → List ℕ → Option Refusal → Type 0
 TellsOf (sought.Tray p) body known = Tells p body known
 TellsOf (sought.Company p) body known = CompanyTells p body known
 

@@ -3,8 +3,8 @@
 
 ghost use Rattle.looking.specs.Looks.{SoughtBegun, SoughtOn, TellsOf, sought_in, LookBegun, LookOn};
 
+use paper::answer::Refusal;
 use paper::rules::Currency;
-use tray::pieces::Known;
 use watch::Watch;
 
 // What is looked at: a tray; or a company's file, in a currency.
@@ -40,7 +40,7 @@ impl Sought {
         }
     }
 
-    fn answer(self, body: &[u8]) -> Known
+    fn answer(self, body: &[u8]) -> Option<Refusal>
         ensures { TellsOf self body.now result }
     {
         match self {
@@ -72,20 +72,16 @@ impl Look {
     pub fn read(self, body: &[u8], piece: &[u8]) -> Look
         ensures { LookOn self body.now piece.now result }
     {
-        let sought = self.sought;
-        let watch = self.watch;
-        let after = sought.read(body, piece);
-        let watched = watch.on(piece);
         Look {
-            sought: after,
-            watch: watched,
+            sought: self.sought.read(body, piece),
+            watch: self.watch.on(piece),
         }
     }
 
-    pub fn answer(self, body: &[u8]) -> Known
+    // What can be told of all of it: a refusal, or nothing where it has no end.
+    pub fn answer(self, body: &[u8]) -> Option<Refusal>
         ensures { TellsOf (sought_in self) body.now result }
     {
-        let sought = self.sought;
-        sought.answer(body)
+        self.sought.answer(body)
     }
 }

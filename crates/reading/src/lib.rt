@@ -49,14 +49,14 @@ fn clean_front(file: &[u8]) -> usize
     requires { length file.now ≤ 940000 }
     ensures { Clean file.now result }
 {
-    let mut front: usize = 0;
-    while front + BLOCK <= file.len() {
-        let end = front + BLOCK;
-        if !text::all_good(&file[front..end]) {
+    let blocks = file.len() / BLOCK;
+    for block in 0..blocks {
+        let front = block * BLOCK;
+        if !text::all_good(&file[front..front + BLOCK]) {
             return front;
         }
-        front = end;
     }
+    let front = blocks * BLOCK;
     if text::all_good(&file[front..]) {
         return file.len();
     }
@@ -211,6 +211,7 @@ pub fn read(terms: Terms, file: &[u8]) -> Result<usize, Refusal>
     let records = file.len() / Record::LENGTH;
     let mut state = State::START;
     let mut place: usize = 0;
+    // no `for`: each turn goes on by a run of records, and how long that is, the run says
     while place < records {
         let (at, after) = onward(terms, file, front, records, place, state)?;
         place = at;

@@ -3,4 +3,3 @@ pub mod Decimals
 pub mod Signs
 pub mod Laying
 pub mod Answers
-pub mod Eights

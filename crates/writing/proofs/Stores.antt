@@ -5,7 +5,7 @@ use mathlib.Core.Path.{◌≡◌}
 use native.Mathlib.Nat.{zero-add}
 use native.Mathlib.Numerals.{add-one}
 use native.Mathlib.Omega.{arith}
-use lib.ListN.{length, get_or, take, drop, set, length-replicate, get_or-replicate}
+use lib.ListN.{length, get_or, take, drop, set, length-replicate}
 use lib.Seq.{length-take-le, append_snoc, set_split, drop_at, paste-suc}
 use Rattle.paper.specs.Writing.{spelled, blanks}
 
@@ -15,11 +15,6 @@ copy_turn d s i h k = rw add-one (rw (zero-add, zero-add) at (paste-suc d 0 s i 
 pub length_blanks : (n : ℕ) → length (blanks n) ≡ n
 unfolding blanks
 length_blanks n = length-replicate n 32
-
--- spaces are copied, of a text of spaces
-pub blank_turn : (d : List ℕ) (i : ℕ) → i < length d → set (take i (blanks (length d)) ++ drop i d) i 32 ≡ take (i + 1) (blanks (length d)) ++ drop (i + 1) d
-unfolding blanks
-blank_turn d i h = rw (get_or-replicate {A = ℕ} (length d) i 32 0 h) at (copy_turn d (blanks (length d)) i h (omega (arith, length_blanks (length d))))
 
 drop_set : (d : List ℕ) (j x : ℕ) → j < length d → drop j (set d j x) ≡ x ∷ drop (suc j) d
 drop_set d j x h = rw (set_split d j x h) (drop_at (take j d) (x ∷ drop (suc j) d) j (length-take-le j d (omega arith)))

@@ -9,12 +9,12 @@ use Rattle.company.proofs.orders.Goals.{At-loop-place}
 
 pub loop-place-init : goal.loop-place-init
 unfolding joined
-loop-place-init c = (omega arith, start (omega arith))
+loop-place-init c = start (omega arith)
 
 long : (c : At-loop-place) → length c.loop-place.dst ≡ length c.args.dst.now
 long c =
     let a = c.args in
-    as_long a.currency a.lo.now a.file.now a.details c.loop-place.place c.loop-place.invariant.1 (omega (arith, c.loop-place.invariant.0, c.requires.2))
+    as_long a.currency a.lo.now a.file.now a.details c.loop-place.place c.loop-place.invariant (omega (arith, c.loop-place.auto, c.requires.2))
 
 pub slice_bounds-write-end : goal.slice_bounds-write-end
 slice_bounds-write-end c =
@@ -28,11 +28,9 @@ write-requires c =
 pub loop-place-preserved : goal.loop-place-preserved
 loop-place-preserved c =
     let a = c.args in
-    let r = c.record_at.ensures in (
-      omega arith,
-      order_put a.currency a.lo.now a.file.now a.details c.loop-place.place c.loop-place.invariant.1 c.requires.0 c.loop-place-test.true
-          (ap length (sym r.0) ∙ r.1) (c.write.ensures ∙ ap (marked_order a.currency a.lo.now) r.0),
-    )
+    let r = c.record_at.ensures in
+    order_put a.currency a.lo.now a.file.now a.details c.loop-place.place c.loop-place.invariant c.requires.0 (omega arith)
+    (ap length (sym r.0) ∙ r.1) (c.write.ensures ∙ ap (marked_order a.currency a.lo.now) r.0)
 
 pub shape_of-dst : goal.shape_of-dst
 shape_of-dst c = long (goal.at.shape_of-dst c).At-loop-place
@@ -40,4 +38,4 @@ shape_of-dst c = long (goal.at.shape_of-dst c).At-loop-place
 pub returns : goal.returns
 returns c =
     let a = c.args in
-    all_put a.currency a.lo.now a.file.now a.details c.loop-place.place c.loop-place.invariant.1 c.loop-place-test.false
+    all_put a.currency a.lo.now a.file.now a.details c.loop-place.place c.loop-place.invariant (omega arith)

@@ -1,17 +1,16 @@
-use Rattle.std.proofs.Common.{append-nil, arith, drop_of_length-le, length, length-set, refl, rules, sym, ◌∙◌, ◌≡◌}
+use Rattle.std.proofs.Common.{append-nil, arith, drop_of_length-le, length, rules, sym, ◌∙◌, ◌≡◌}
 use Rattle.paper.specs.Writing.{spelled}
 use Rattle.writing.proofs.Stores.{digit_back}
 use Rattle.writing.proofs.digits.Goals as goal
 
 pub loop-i-init : goal.loop-i-init
-loop-i-init c = (omega arith, refl, rw (drop_of_length-le c.args.part.now {i = length c.args.part.now} (search rules), append-nil))
+loop-i-init c = rw (drop_of_length-le c.args.part.now {i = length c.args.part.now} (search rules), append-nil)
 
 pub loop-i-preserved : goal.loop-i-preserved
-loop-i-preserved c =
-    (omega arith, simp length-set c.loop-i.invariant.1, c.loop-i.invariant.2 ∙ digit_back c.loop-i.i c.loop-i.rest c.loop-i.part (omega arith) (omega arith))
+loop-i-preserved c = c.loop-i.invariant ∙ digit_back c.loop-i.i c.loop-i.rest c.loop-i.part (omega arith) (omega arith)
 
 pub returns : goal.returns
 unfolding spelled
 returns c =
     let e : c.loop-i.i ≡ 0 = omega arith in
-    sym (c.loop-i.invariant.2 ∙ rw e)
+    sym (c.loop-i.invariant ∙ rw e)

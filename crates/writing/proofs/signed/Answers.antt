@@ -26,17 +26,17 @@ text-past-requires c =
 
 pub number-requires : goal.number-requires
 number-requires c =
-    rw (absolute c.args.n c.requires.n_bound c.size.ensures) (omega (arith, rw (down c.args.n c.requires.n_bound c.if-n-lt0.true, length-append) at c.requires.n_in_bounds))
+    rw (absolute c.args.n c.requires.n_bound c.unsigned_abs.ensures.value) (omega (arith, rw (down c.args.n c.requires.n_bound c.if-n-lt0.true, length-append) at c.requires.n_in_bounds))
 
 pub returns-then-n-lt0 : goal.returns-then-n-lt0
 returns-then-n-lt0 c =
-    let r = on (on (start (omega arith)) (bytes "-") c.text-past.ensures) (decimal (nat_abs c.args.n)) (rw (absolute c.args.n c.requires.n_bound c.size.ensures) at c.number.ensures) in
+    let r = on (on (start (omega arith)) (bytes "-") c.text-past.ensures) (decimal (nat_abs c.args.n)) (rw (absolute c.args.n c.requires.n_bound c.unsigned_abs.ensures.value) at c.number.ensures) in
     rw (down c.args.n c.requires.n_bound c.if-n-lt0.true) (r.next, r.held)
 
 pub number-requires-2 : goal.number-requires-2
 number-requires-2 c =
-    rw (absolute c.args.n c.requires.n_bound c.size-2.ensures) (omega (arith, rw (up c.args.n c.requires.n_bound c.if-n-lt0.false) at c.requires.n_in_bounds))
+    rw (absolute c.args.n c.requires.n_bound c.unsigned_abs-2.ensures.value) (omega (arith, rw (up c.args.n c.requires.n_bound c.if-n-lt0.false) at c.requires.n_in_bounds))
 
 pub returns : goal.returns
 returns c =
-    rw (up c.args.n c.requires.n_bound c.if-n-lt0.false) (rw (absolute c.args.n c.requires.n_bound c.size-2.ensures) at c.number-2.ensures)
+    rw (up c.args.n c.requires.n_bound c.if-n-lt0.false) (rw (absolute c.args.n c.requires.n_bound c.unsigned_abs-2.ensures.value) at c.number-2.ensures)

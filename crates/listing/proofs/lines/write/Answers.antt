@@ -11,7 +11,8 @@ pub loop-n-init : goal.loop-n-init
 unfolding entity_lines cell_sums
 loop-n-init c =
     record {
-      within = search rules;
+      passed = 0;
+      next = refl;
       short = search rules;
       summed = refl;
       lines = again (heading c.args.out.now c.text-at.new.out c.text-at.result c.text-at.ensures);
@@ -19,34 +20,41 @@ loop-n-init c =
 
 pub entity-at-requires : goal.entity-at-requires
 entity-at-requires c =
-    record { e_bound = omega arith; position_bound = omega (arith, (c.requires.by_index (c.loop-n.n + 1)).position); has_room = omega arith }
+    let i = c.loop-n.invariant in
+    record { e_bound = omega arith; position_bound = omega (arith, (c.requires.by_index c.loop-n.n).position); has_room = omega (arith, i.next, i.short) }
 
 pub plus-sums-requires : goal.plus-sums-requires
 plus-sums-requires c =
-    rw (c.loop-n.invariant.summed, ← sums_next c.loop-n.n c.args.cells) (c.requires.by_index_2 (c.loop-n.n + 1) (omega arith))
+    let i = c.loop-n.invariant in
+    let e : c.loop-n.n ≡ i.passed + 1 = i.next in
+    rw (i.summed, e, ← sums_next i.passed c.args.cells) (c.requires.by_index_2 (i.passed + 1) (omega arith))
 
 pub loop-n-preserved : goal.loop-n-preserved
 loop-n-preserved c =
-    let e = c.loop-n.n + 1 in
+    let i = c.loop-n.invariant in
+    let e = i.passed + 1 in
     let d = get_or c.args.cells e zero_cell in
-    let m = entity_most e d (omega arith) (omega (arith, (c.requires.by_index e).position)) in
+    let m = entity_most e d (omega (arith, i.next)) (omega (arith, (c.requires.by_index e).position)) in
     record {
-      within = omega arith;
-      short = omega (arith, c.entity-at.ensures.0);
-      summed = c.plus-sums.ensures ∙ rw c.loop-n.invariant.summed (sym (sums_next c.loop-n.n c.args.cells));
-      lines = rw lines_next (on c.loop-n.invariant.lines (entity_line e d) c.entity-at.ensures);
+      passed = e;
+      next = omega (arith, i.next);
+      short = omega (arith, (rw i.next at c.entity-at.ensures).0, m, i.short);
+      summed = c.plus-sums.ensures ∙ rw (i.summed, i.next) (sym (sums_next i.passed c.args.cells));
+      lines = rw lines_next (on i.lines (entity_line e d) (rw i.next at c.entity-at.ensures));
     }
 
 pub figures-requires : goal.figures-requires
 figures-requires c =
-    record { position_bound = rw c.loop-n.invariant.summed (omega (arith, (c.requires.by_index_2 c.loop-n.n (omega arith)).position)); has_room = omega arith }
+    let i = c.loop-n.invariant in
+    record { position_bound = rw i.summed (omega (arith, (c.requires.by_index_2 i.passed (omega (arith, i.next))).position)); has_room = omega (arith, i.next, i.short) }
 
 pub returns : goal.returns
 returns c =
     let cells = c.args.cells in
     let t = c.text-at in
-    let all : c.loop-n.n ≡ 499 = omega arith in
-    let w : Wrote t.result (entity_lines 499 cells) t.new.out c.loop-n.out c.loop-n.at = rw all at c.loop-n.invariant.lines in
+    let i = c.loop-n.invariant in
+    let all : i.passed ≡ 499 = omega (arith, i.next) in
+    let w : Wrote t.result (entity_lines 499 cells) t.new.out c.loop-n.out c.loop-n.at = rw all at i.lines in
     let listed = on (heading c.args.out.now t.new.out t.result t.ensures) (entity_lines 499 cells) (w.next, w.held) in
-    let sums = rw (c.loop-n.invariant.summed, all) at c.figures.ensures in
+    let sums = rw (i.summed, all) at c.figures.ensures in
     whole (rw (listing_parts cells) at (on (on listed (bytes "SUM") c.text-at-2.ensures) (figures_line [] (cell_sums 499 cells)) sums))

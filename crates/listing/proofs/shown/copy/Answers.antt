@@ -8,14 +8,13 @@ pub loop-i-preserved : goal.loop-i-preserved
 loop-i-preserved c =
     let text = c.args.text.now in
     let long = length_shown text in (
-      omega arith,
-      simp length-set c.loop-i.invariant.1,
-      rw (c.loop-i.invariant.2, c.byte.ensures, ← shown_at text c.loop-i.i (omega arith))
+      simp length-set c.loop-i.invariant.0,
+      rw (c.loop-i.invariant.1, c.byte.ensures, ← shown_at text c.loop-i.i (omega arith))
           (copy_turn c.args.part.now (shown text) c.loop-i.i (omega arith) (omega arith)),
     )
 
 pub returns : goal.returns
 returns c =
     let text = c.args.text.now in
-    c.loop-i.invariant.2
+    c.loop-i.invariant.1
     ∙ rw (take_all c.loop-i.i (shown text) (omega (arith, length_shown text)), drop_of_length-le c.args.part.now {i = c.loop-i.i} (omega arith), append-nil)
