@@ -33,6 +33,7 @@ fn look_on(
 }
 
 // To the last piece. Each full one is counted, so the loop ends by what the source may hand over. The form is there for the contract alone.
+// No one function with `roster::read_all`: what a look keeps, by form, body and whole records, takes a trait of more lines than this loop.
 fn look_through(
     form: Form,
     begun: Look,
