@@ -7,11 +7,10 @@ use mathlib.Core.Path.{◌≡◌, refl, sym, ap, ◌∙◌, subst}
 use lib.Dec.{T, leb, le→leb}
 use lib.ListN.{length, take, drop, length-replicate}
 use lib.Seq.{take_at}
+use Rattle.std.specs.Prelude.{Ok}
 use Rattle.paper.specs.declared.answer.Fault.{Fault}
 use Rattle.paper.specs.declared.answer.Fault.TheVariants.{Length, Room, Tray}
-use Rattle.paper.specs.declared.answer.Output.{Output}
-use Rattle.paper.specs.declared.answer.Output.TheVariants.{Accepted, Refused}
-use Rattle.paper.specs.Answers.{Said, accepted, refused, number_of, and_then, require}
+use Rattle.paper.specs.Answers.{Output, Said, accepted, refused, refusal, number_of, and_then, require}
 use Rattle.paper.specs.Fields.{among}
 use Rattle.paper.specs.Reading.{length_good, reading}
 use Rattle.paper.specs.Writing.{blanks}
@@ -90,8 +89,8 @@ module _ (s : Session) (header tray before : List ℕ) where
 
     -- accepted exactly when header body and tray are well formed, and the file is not too long, has room and passes the reading
     -- (not so with a desk that refuses all, or one that takes a tray whose last record is cut short)
-    pub build_exactly : (Buildable s header tray before → r ≡ Accepted (length (build header tray)))
-        × ((n : ℕ) → r ≡ Accepted n → Buildable s header tray before)
+    pub build_exactly : (Buildable s header tray before → r ≡ Ok (length (build header tray)))
+        × ((n : ℕ) → r ≡ Ok n → Buildable s header tray before)
     build_exactly = (
       λ x. numbers accepted (build header tray) before r after (says (no_more x)) refl,
       λ n p. all_asked (answered p),
@@ -99,7 +98,7 @@ module _ (s : Session) (header tray before : List ℕ) where
 
     -- then the caller has the file, its length is the number given, and the rest of the buffer stays
     -- (not so with a file that lacks the last batch's control, or a call that blanks the rest of the buffer)
-    pub build_held : {n : ℕ} → r ≡ Accepted n
+    pub build_held : {n : ℕ} → r ≡ Ok n
         → (handed r after ≡ build header tray) × (n ≡ length (build header tray)) × (drop n after ≡ drop n before)
     build_held p = held accepted (build header tray) before r after (says (answered p)) p
 
@@ -109,23 +108,23 @@ module _ (s : Session) (header tray before : List ℕ) where
 
     -- the number given is within the buffer handed back
     -- (not so with a number that counts the tray's marks too, or with a buffer cut short)
-    pub build_inside : {n : ℕ} → r ≡ Accepted n → n ≤ length after
+    pub build_inside : {n : ℕ} → r ≡ Ok n → n ≤ length after
     build_inside p = inside accepted (build header tray) before r after (says (answered p)) p
 
     -- demand 1: 207, 201 and 206 leave the lent buffer as it was
     -- (not so with a build that writes as it goes and then finds a bad mark, or one that clears the buffer when there is no room)
     pub build_stays : (fault : Fault) (place : ℕ) → buildable header tray before ≡ refused (number_of fault) place
-        → (r ≡ Refused fault place) × (after ≡ before)
-    build_stays fault place e = told_once r (Refused fault place) after before (h ∙ building_stays (rules_of s) header tray before e)
+        → (r ≡ refusal fault place) × (after ≡ before)
+    build_stays fault place e = told_once r (refusal fault place) after before (h ∙ building_stays (rules_of s) header tray before e)
 
     -- "When the reading refuses, the bytes the built file would have taken are all spaces": those, and the rest of the buffer stays
     -- (not so with a refused file left in the buffer, or a call that blanks the buffer to its end)
     pub build_spaces : (fault : Fault) (place : ℕ) → buildable header tray before ≡ accepted
-        → reading (rules_of s) (build header tray) ≡ refused (number_of fault) place → (r ≡ Refused fault place) × Spaced (build header tray) before after
+        → reading (rules_of s) (build header tray) ≡ refused (number_of fault) place → (r ≡ refusal fault place) × Spaced (build header tray) before after
     unfolding over blanks
     build_spaces fault place e q =
         let n : ℕ = length (build header tray) in
-        let k = told_once r (Refused fault place) after (over (blanks n) before) (h ∙ building_spaces (rules_of s) header tray before e q) in
+        let k = told_once r (refusal fault place) after (over (blanks n) before) (h ∙ building_spaces (rules_of s) header tray before e q) in
         let l : length (blanks n) ≡ n = length-replicate {A = ℕ} n 32 in (
           k.0,
           record {
@@ -136,7 +135,7 @@ module _ (s : Session) (header tray before : List ℕ) where
 
     -- every refusal is one of these two
     -- (not so with a refusal of a third kind, or with spaces left by 206)
-    pub build_refused : {fault : Fault} {place : ℕ} → r ≡ Refused fault place
+    pub build_refused : {fault : Fault} {place : ℕ} → r ≡ refusal fault place
         → ((buildable header tray before ≡ refused (number_of fault) place) × (after ≡ before))
         ⊎ ((buildable header tray before ≡ accepted) × (reading (rules_of s) (build header tray) ≡ refused (number_of fault) place) × Spaced (build header tray) before after)
     build_refused {fault} {place} p =
@@ -146,8 +145,8 @@ module _ (s : Session) (header tray before : List ℕ) where
     -- 207 "header body not 94 bytes or tray no multiple of 96, at 0; then the first record with a bad mark, a body not beginning with 5 for LO, 6 for
     -- IN, 7 for AD, or a nonzero tail, at its tray record": exactly then, and the buffer stays
     -- (not so with a desk that names the last bad record, or one that gives the place which the record would have in the file)
-    pub build_tray_named : (place : ℕ) → (r ≡ Refused Tray place → TrayBad header tray place)
-        × (TrayBad header tray place → (r ≡ Refused Tray place) × (after ≡ before))
+    pub build_tray_named : (place : ℕ) → (r ≡ refusal Tray place → TrayBad header tray place)
+        × (TrayBad header tray place → (r ≡ refusal Tray place) × (after ≡ before))
     unfolding among
     build_tray_named place = (
       λ p. ⊎_elim (λ x. x.1) (⊎_elim (λ x. absurd (omega (arith, x.0))) (λ x. absurd (omega (arith, x.0)))) (own (λ t. t) (answered p)),
@@ -156,12 +155,12 @@ module _ (s : Session) (header tray before : List ℕ) where
 
     -- a good tray whose file is longer than 940,000 bytes is 201 at 0 whatever was lent, also where there is no room either: 201 goes before 206
     -- (not so with a desk that asks for the room first, or one that leaves 201 to the reading and so blanks the buffer)
-    pub build_too_long : tray_answer header tray ≡ accepted → 940000 < length (build header tray) → (r ≡ Refused Length 0) × (after ≡ before)
+    pub build_too_long : tray_answer header tray ≡ accepted → 940000 < length (build header tray) → (r ≡ refusal Length 0) × (after ≡ before)
     build_too_long g l = build_stays Length 0 (too_long header tray before g l)
 
     -- and 201 is for nothing else
     -- (not so with 201 for a header body of another length, or at the place of the first record that is too many)
-    pub build_length_named : (place : ℕ) → r ≡ Refused Length place
+    pub build_length_named : (place : ℕ) → r ≡ refusal Length place
         → (tray_answer header tray ≡ accepted) × (940000 < length (build header tray)) × (place ≡ 0)
     unfolding among
     build_length_named place p =
@@ -170,12 +169,12 @@ module _ (s : Session) (header tray before : List ℕ) where
     -- a good tray whose file is not too long, but longer than the buffer, is 206 at 0
     -- (not so with a desk that asks for room for the tray, or one that writes as much as the buffer takes)
     pub build_no_room : tray_answer header tray ≡ accepted → length (build header tray) ≤ 940000 → length before < length (build header tray)
-        → (r ≡ Refused Room 0) × (after ≡ before)
+        → (r ≡ refusal Room 0) × (after ≡ before)
     build_no_room g l m = build_stays Room 0 (no_room header tray before g l m)
 
     -- and 206 is for nothing else
     -- (not so with a desk that wants room for 940,000 bytes always, or one that answers 206 before it has looked at the tray)
-    pub build_room_named : (place : ℕ) → r ≡ Refused Room place
+    pub build_room_named : (place : ℕ) → r ≡ refusal Room place
         → (tray_answer header tray ≡ accepted) × (length (build header tray) ≤ 940000) × (length before < length (build header tray)) × (place ≡ 0)
     unfolding among
     build_room_named place p =

@@ -7,12 +7,11 @@ use mathlib.Core.Logic.{◌↔◌, inl, inr, ⊎_elim, ⊎_map}
 use mathlib.Core.Path.{◌≡◌, refl, sym, ap, ◌∙◌}
 use lib.Dec.{leb, leb→le, le→leb}
 use lib.ListN.{length, drop}
+use Rattle.std.specs.Prelude.{Ok}
 use Rattle.paper.specs.declared.answer.Fault.{Fault}
 use Rattle.paper.specs.declared.answer.Fault.TheVariants.{Length, Tray}
-use Rattle.paper.specs.declared.answer.Output.{Output}
-use Rattle.paper.specs.declared.answer.Output.TheVariants.{Accepted, Refused}
 use Rattle.paper.specs.declared.rules.Currency.{Currency}
-use Rattle.paper.specs.Answers.{accepted, refused, number_of, and_then, require}
+use Rattle.paper.specs.Answers.{Output, accepted, refused, refusal, number_of, and_then, require}
 use Rattle.paper.specs.Reading.{record_at, length_good, reading}
 use Rattle.paper.specs.Writing.{numbered}
 use Rattle.paper.specs.Trays.{tray_record_good, build}
@@ -53,17 +52,17 @@ module _ (currency : Currency) (lo file before : List ℕ) (r : Output) (after :
 
   -- every refusal leaves the buffer as it was
   -- (not so with orders written as the details are read)
-  pub made_stays : {fault : Fault} {place : ℕ} → r ≡ Refused fault place → after ≡ before
+  pub made_stays : {fault : Fault} {place : ℕ} → r ≡ refusal fault place → after ≡ before
   made_stays = stays (answer_to_company currency lo file before) (company_tray currency lo file) before r after says
 
   -- what it counts is within the buffer
-  pub made_inside : {n : ℕ} → r ≡ Accepted n → n ≤ length after
+  pub made_inside : {n : ℕ} → r ≡ Ok n → n ≤ length after
   made_inside = inside (answer_to_company currency lo file before) (company_tray currency lo file) before r after says
 
   -- accepted exactly where LO body and file are good and there is room
   -- (not so with room asked for as long as the file is, or for the closing record too)
-  pub made_exactly : (TrayMakeable currency lo file before → r ≡ Accepted (tray_bytes file))
-      × ((n : ℕ) → r ≡ Accepted n → TrayMakeable currency lo file before)
+  pub made_exactly : (TrayMakeable currency lo file before → r ≡ Ok (tray_bytes file))
+      × ((n : ℕ) → r ≡ Ok n → TrayMakeable currency lo file before)
   unfolding room_for and_then
   made_exactly =
       let new : List ℕ = company_tray currency lo file in (
@@ -80,12 +79,12 @@ module _ (currency : Currency) (lo file before : List ℕ) (r : Output) (after :
 
   -- then the caller has the tray, and the rest of the buffer stays
   -- (not so with a tray without its LO, or with spaces behind the last order)
-  pub made_held : {n : ℕ} → r ≡ Accepted n → (handed r after ≡ company_tray currency lo file) × (drop n after ≡ drop n before)
+  pub made_held : {n : ℕ} → r ≡ Ok n → (handed r after ≡ company_tray currency lo file) × (drop n after ≡ drop n before)
   made_held p = let x = held (answer_to_company currency lo file before) (company_tray currency lo file) before r after says p in (x.0, x.2)
 
   -- the first fault is the answer, and it is a fault of the table
   -- (not so with 206 for a file that is refused anyway, or with a place that counts from 1)
-  pub made_refused : (fault : Fault) (place : ℕ) → (r ≡ Refused fault place) ↔ TrayFaulty currency lo file before (number_of fault) place
+  pub made_refused : (fault : Fault) (place : ℕ) → (r ≡ refusal fault place) ↔ TrayFaulty currency lo file before (number_of fault) place
   unfolding room_for and_then require
   made_refused fault place =
       let n : ℕ = number_of fault in
@@ -137,14 +136,14 @@ module _ (currency : Currency) (lo file : List ℕ) (good : company_answer curre
 
   -- 201 at 0, whatever else, of more than 9,996 details
   -- (not so with 201 by the company's own bytes)
-  pub company_too_long : 9996 < detail_count file → (r ≡ Refused Length 0) × (after ≡ before)
+  pub company_too_long : 9996 < detail_count file → (r ≡ refusal Length 0) × (after ≡ before)
   company_too_long l =
       let long = company_file_length currency lo file good header body in
       build_too_long s header tray before r after h (tray_good currency lo file good header body) (omega arith)
 
   -- never with 207
   -- (not so with an order under the mark LO, or with a body of 93 bytes)
-  pub company_not_207 : (place : ℕ) → r ≡ Refused Tray place → ⊥
+  pub company_not_207 : (place : ℕ) → r ≡ refusal Tray place → ⊥
   unfolding tray_record_at
   company_not_207 place p = go ((build_tray_named s header tray before r after h place).0 p)
     where
@@ -161,8 +160,8 @@ module _ (currency : Currency) (lo file : List ℕ) (good : company_answer curre
 
   -- accepted exactly where the file built is not too long, has room and passes the reading: nothing is asked of the tray any more
   -- (not so with a tray that building refuses for its own sake)
-  pub company_built : (TrayBuildable s header tray file before → r ≡ Accepted (built_bytes file))
-      × ((n : ℕ) → r ≡ Accepted n → TrayBuildable s header tray file before)
+  pub company_built : (TrayBuildable s header tray file before → r ≡ Ok (built_bytes file))
+      × ((n : ℕ) → r ≡ Ok n → TrayBuildable s header tray file before)
   unfolding tray_record_at
   company_built =
       let sound = tray_sound currency lo file good in
@@ -182,16 +181,16 @@ module _ (currency : Currency) (lo file : List ℕ) (good : company_answer curre
 
   -- then the caller has a file whose record two behind a detail's place is that detail's order, numbered
   -- (not so with orders in the order of their entities, or with numbers that go on from an earlier file)
-  pub company_hands : {n : ℕ} → r ≡ Accepted n → (k : ℕ) → k < detail_count file
+  pub company_hands : {n : ℕ} → r ≡ Ok n → (k : ℕ) → k < detail_count file
       → record_at (handed r after) (k + 2) ≡ numbered (k + 1) (order_of currency lo (company_record_at file k))
   company_hands p k b =
       ap (λ (f : List ℕ). record_at f (k + 2)) (build_held s header tray before r after h p).0 ∙ company_file_order currency lo file good header body k b
 
   -- and stripping that file in that session, or in one of the same date, currency and roster, with room for the tray, returns the company's tray
   -- (not so with a build that leaves out an order, or a strip that leaves the file's numbers in 88-94)
-  module _ {n : ℕ} (p : r ≡ Accepted n) (t : Session) (same : rules_of t ≡ rules_of s)
+  module _ {n : ℕ} (p : r ≡ Ok n) (t : Session) (same : rules_of t ≡ rules_of s)
       (other : List ℕ) (q : Output) (later : List ℕ) (k : Strips t (handed r after) other q later) (room : tray_bytes file ≤ length other) where
-    pub company_comes_back : (q ≡ Accepted (tray_bytes file)) × (handed q later ≡ tray)
+    pub company_comes_back : (q ≡ Ok (tray_bytes file)) × (handed q later ≡ tray)
         × (drop (tray_bytes file) later ≡ drop (tray_bytes file) other)
     company_comes_back =
         let l : length tray ≡ tray_bytes file = tray_size currency lo file good in

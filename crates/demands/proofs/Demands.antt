@@ -9,15 +9,12 @@ use mathlib.Core.Path.{◌≡◌, refl, sym, ap, ◌∙◌, subst, subst₂}
 use lib.Dec.{T}
 use lib.IntN.{pos}
 use lib.ListN.{length, drop, get_or}
-use Rattle.paper.specs.declared.answer.Answer.{Answer}
-use Rattle.paper.specs.declared.answer.Answer.TheVariants.{Accepted, Refused}
+use Rattle.std.specs.Prelude.{Ok}
 use Rattle.paper.specs.declared.answer.Fault.{Fault}
 use Rattle.paper.specs.declared.answer.Fault.TheVariants.{Identifier}
-use Rattle.paper.specs.declared.answer.Output.{Output}
-use Rattle.paper.specs.declared.answer.Output.TheVariants as output
 use Rattle.paper.specs.declared.ledger.Cell.{Cell}
 use Rattle.paper.specs.declared.rules.Currency.{Currency}
-use Rattle.paper.specs.Answers.{accepted, refused, number_of, said}
+use Rattle.paper.specs.Answers.{Answer, Output, accepted, refused, refusal, number_of, said}
 use Rattle.paper.specs.Fields.{field, among, within}
 use Rattle.paper.specs.Reading.{reading}
 use Rattle.paper.specs.Trays.{build}
@@ -83,7 +80,7 @@ building_ends s header tray before r after h =
     told_answered (BuildStandsAt header tray) r after (build_answer s header tray before r after h) (building_stands header tray s before)
 
 -- "A refused file changes no position": the session handed back is the one that was handed over, to the last mark
-pub refused_unchanged : (s : Session) (file : List ℕ) (r : Reply) → Presents s file r → {fault : Fault} {place : ℕ} → r.answer ≡ Refused fault place → r.session ≡ s
+pub refused_unchanged : (s : Session) (file : List ℕ) (r : Reply) → Presents s file r → {fault : Fault} {place : ℕ} → r.answer ≡ refusal fault place → r.session ≡ s
 refused_unchanged s file r h e =
     session_once r.session s
     (ap (λ (x : paper.Reply). x.session) h
@@ -91,16 +88,16 @@ refused_unchanged s file r h e =
 
 -- "a lent buffer after a refusal holds what 01 states": what it held before
 pub refused_extract_leaves : (s : Session) (e : ℕ) (file before : List ℕ) (r : Output) (after : List ℕ) → Extracts s e file before r after
-    → {fault : Fault} {place : ℕ} → r ≡ output.Refused fault place → after ≡ before
+    → {fault : Fault} {place : ℕ} → r ≡ refusal fault place → after ≡ before
 refused_extract_leaves s e file before r after h = extract_refused s e file before r after h
 
 pub refused_strip_leaves : (s : Session) (file before : List ℕ) (r : Output) (after : List ℕ) → Strips s file before r after
-    → {fault : Fault} {place : ℕ} → r ≡ output.Refused fault place → after ≡ before
+    → {fault : Fault} {place : ℕ} → r ≡ refusal fault place → after ≡ before
 refused_strip_leaves s file before r after h = strip_refused s file before r after h
 
 -- "except as said under building": 207, 201 and 206 leave it; where the reading refuses, the bytes that the built file would have taken are all spaces
 pub refused_build_leaves : (s : Session) (header tray before : List ℕ) (r : Output) (after : List ℕ) → Builds s header tray before r after
-    → {fault : Fault} {place : ℕ} → r ≡ output.Refused fault place
+    → {fault : Fault} {place : ℕ} → r ≡ refusal fault place
     → ((buildable header tray before ≡ refused (number_of fault) place) × (after ≡ before))
     ⊎ ((buildable header tray before ≡ accepted) × (reading (rules_of s) (build header tray) ≡ refused (number_of fault) place) × Spaced (build header tray) before after)
 refused_build_leaves s header tray before r after h = build_refused s header tray before r after h
@@ -109,31 +106,31 @@ refused_build_leaves s header tray before r after h = build_refused s header tra
 
 module _ (s : Session) (file : List ℕ) where
   -- "Reading accepts a file exactly when 01 accepts it"
-  pub reading_exactly : (a : Answer) → Reads s file a → (a ≡ Accepted) ↔ Accepts (rules_of s) file
+  pub reading_exactly : (a : Answer) → Reads s file a → (a ≡ Ok tt) ↔ Accepts (rules_of s) file
   reading_exactly a h = (
     λ p. (accepted_exactly (rules_of s) file).0 (sym h ∙ ap said p),
-    λ x. said_once a Accepted (h ∙ (accepted_exactly (rules_of s) file).1 x),
+    λ x. said_once a (Ok tt) (h ∙ (accepted_exactly (rules_of s) file).1 x),
   )
 
   -- "else the first fault is named", by its number and its record
-  pub reading_names : (a : Answer) → Reads s file a → (fault : Fault) (place : ℕ) → (a ≡ Refused fault place) ↔ Faulty (rules_of s) file (number_of fault) place
+  pub reading_names : (a : Answer) → Reads s file a → (fault : Fault) (place : ℕ) → (a ≡ refusal fault place) ↔ Faulty (rules_of s) file (number_of fault) place
   reading_names a h fault place = (
     λ p. (refused_exactly (rules_of s) file).0 (sym h ∙ ap said p),
-    λ x. said_once a (Refused fault place) (h ∙ (refused_exactly (rules_of s) file).1 x),
+    λ x. said_once a (refusal fault place) (h ∙ (refused_exactly (rules_of s) file).1 x),
   )
 
   -- the same of the jobs that write: "208, then the reading's refusals, then 206"; "the reading's refusals, then 206"
   pub extracting_names : (e : ℕ) (before : List ℕ) (r : Output) (after : List ℕ) → Extracts s e file before r after → (fault : Fault) (place : ℕ)
-      → (r ≡ output.Refused fault place) ↔ ExtractFaulty s e file before (number_of fault) place
+      → (r ≡ refusal fault place) ↔ ExtractFaulty s e file before (number_of fault) place
   extracting_names e before r after h fault place = extract_named s e file before r after h fault place
 
   pub stripping_names : (before : List ℕ) (r : Output) (after : List ℕ) → Strips s file before r after → (fault : Fault) (place : ℕ)
-      → (r ≡ output.Refused fault place) ↔ StripFaulty s file before (number_of fault) place
+      → (r ≡ refusal fault place) ↔ StripFaulty s file before (number_of fault) place
   stripping_names before r after h fault place = strip_named s file before r after h fault place
 
 -- "Order: 207 .., 201, 206, then the reading's answer on the result"
 pub building_names : (s : Session) (header tray before : List ℕ) (r : Output) (after : List ℕ) → Builds s header tray before r after → (fault : Fault) (place : ℕ)
-    → (r ≡ output.Refused fault place) ↔ BuildFaulty s header tray before (number_of fault) place
+    → (r ≡ refusal fault place) ↔ BuildFaulty s header tray before (number_of fault) place
 building_names s header tray before r after h fault place = build_named s header tray before r after h fault place
 
 -- an identifier is the character in position 34: two files that 01 accepts have the same one exactly where that character is the same
@@ -145,12 +142,12 @@ one_character_one_identifier s t f g a b =
 module _ {s : Session} {files : List (List ℕ)} (came : Came s files) where
   -- "presenting exactly when, besides, its identifier is new from its origin"
   pub presenting_exactly : (file : List ℕ) (r : Reply) → Presents s file r
-      → (r.answer ≡ Accepted) ↔ (Accepts (rules_of s) file × (among (identifiers_from (origin_of file) files) (identifier_of file) ≡ false))
+      → (r.answer ≡ Ok tt) ↔ (Accepts (rules_of s) file × (among (identifiers_from (origin_of file) files) (identifier_of file) ≡ false))
   presenting_exactly file r h = taken_when came file r h
 
   -- "else the first fault is named": the reading's, then 209
   pub presenting_names : (file : List ℕ) (r : Reply) → Presents s file r → (fault : Fault) (place : ℕ)
-      → (r.answer ≡ Refused fault place)
+      → (r.answer ≡ refusal fault place)
       ↔ (Faulty (rules_of s) file (number_of fault) place
       ⊎ (Accepts (rules_of s) file × (among (identifiers_from (origin_of file) files) (identifier_of file) ≡ true) × (fault ≡ Identifier) × (place ≡ 0)))
   presenting_names file r h fault place = refused_when came file r h fault place
@@ -178,9 +175,9 @@ module _ {s : Session} {files : List (List ℕ)} (came : Came s files) where
 
 -- "Where building from a tray succeeds, stripping the file in that session, with room, returns the tray", and the rest of that buffer stays
 pub built_strips_back : (s : Session) (header tray before : List ℕ) (r : Output) (after : List ℕ) → Builds s header tray before r after
-    → {n : ℕ} → r ≡ output.Accepted n
+    → {n : ℕ} → r ≡ Ok n
     → (other : List ℕ) (q : Output) (later : List ℕ) → Strips s (handed r after) other q later → length tray ≤ length other
-    → (q ≡ output.Accepted (length tray)) × (handed q later ≡ tray) × (drop (length tray) later ≡ drop (length tray) other)
+    → (q ≡ Ok (length tray)) × (handed q later ≡ tray) × (drop (length tray) later ≡ drop (length tray) other)
 built_strips_back s header tray before r after h p other q later k room = built_then_stripped s header tray before r after h p s refl other q later k room
 
 -- ---- demand 3: "An entity's figures depend on its own records only."
@@ -192,17 +189,17 @@ own_records_only come came e same c d h k = subst₂ Equal (sym h) (sym k) (same
 
 -- "If two files pass the reading in one session with the same file header, and their batches that hold records to E have, in order, the same headers (numbers
 -- aside) and the same records to E with their additionals, E's extracts are equal byte for byte."
-module _ (s : Session) (e : ℕ) (f g : List ℕ) (passes : Reads s f Accepted) (passes_too : Reads s g Accepted) (same : SameTo e f g) where
+module _ (s : Session) (e : ℕ) (f g : List ℕ) (passes : Reads s f (Ok tt)) (passes_too : Reads s g (Ok tt)) (same : SameTo e f g) where
   -- whatever buffers were lent
   pub extracts_equal : (before before2 : List ℕ) (r q : Output) (after after2 : List ℕ) → Extracts s e f before r after → Extracts s e g before2 q after2
-      → {n m : ℕ} → r ≡ output.Accepted n → q ≡ output.Accepted m → handed r after ≡ handed q after2
+      → {n m : ℕ} → r ≡ Ok n → q ≡ Ok m → handed r after ≡ handed q after2
   extracts_equal = extracts.extracts_apart s e f g same
 
   -- where E can have one, both are written: E on the roster, and buffers as long as the files, which always have room
-  pub extracts_written : T (within 1 499 e) → T (get_or s.roster e false)
+  pub extracts_written : T (within 1 499 e) → T (get_or s.rules.roster e false)
       → (before before2 : List ℕ) → length f ≤ length before → length g ≤ length before2
       → (r q : Output) (after after2 : List ℕ) → Extracts s e f before r after → Extracts s e g before2 q after2
-      → (r ≡ output.Accepted (length (handed r after))) × (q ≡ r) × (handed q after2 ≡ handed r after)
+      → (r ≡ Ok (length (handed r after))) × (q ≡ r) × (handed q after2 ≡ handed r after)
   extracts_written = extracts.extracts_written s e f g same (sym passes) (sym passes_too)
 
   -- lent the same buffer, the answer is the same too, and so is every byte of the buffer after it

@@ -7,9 +7,8 @@ use mathlib.Core.List.{List}
 use mathlib.Core.Path.{◌≡◌, refl, ap, ◌∙◌}
 use lib.Dec.{eqb}
 use lib.ListN.{length}
-use Rattle.paper.specs.declared.answer.Output.{Output}
-use Rattle.paper.specs.declared.answer.Output.TheVariants.{Accepted, Refused}
-use Rattle.paper.specs.Answers.{Said, accepted, refused, and_then, require}
+use Rattle.std.specs.Prelude.{Ok, Err}
+use Rattle.paper.specs.Answers.{Output, Said, accepted, refused, and_then, require}
 use Rattle.paper.specs.Trays.{tray_records, tray_fault}
 use Rattle.paper.specs.Buffers.{Outcome, told, tray_answer, buildable, building}
 use Rattle.paper.proofs.Refusals.{and_then_assoc}
@@ -55,5 +54,5 @@ module _ (s : Session) (header tray before : List ℕ) (long : 960000 < length t
     long_stays = go r (h ∙ outcome)
       where
         go : (x : Output) → told x after ≡ refusal (tray_answer header tray) → after ≡ before
-        go (Accepted n) e = ap (λ (o : Outcome). o.buffer) e
-        go (Refused fault place) e = ap (λ (o : Outcome). o.buffer) e
+        go (Ok n) e = ap (λ (o : Outcome). o.buffer) e
+        go (Err r) e = ap (λ (o : Outcome). o.buffer) e

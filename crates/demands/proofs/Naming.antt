@@ -8,10 +8,8 @@ use lib.Dec.{leb}
 use lib.ListN.{length, get_or}
 use borrow.Author.Tests.{leb-false, lt-leb}
 use Rattle.paper.specs.declared.answer.Fault.{Fault}
-use Rattle.paper.specs.declared.answer.Output.{Output}
-use Rattle.paper.specs.declared.answer.Output.TheVariants.{Refused}
 use Rattle.paper.specs.declared.rules.Rules.{Rules}
-use Rattle.paper.specs.Answers.{Said, accepted, refused, number_of, and_then, require}
+use Rattle.paper.specs.Answers.{Output, Said, accepted, refused, refusal, number_of, and_then, require}
 use Rattle.paper.specs.Fields.{within}
 use Rattle.paper.specs.Records.{ReadingRules, in_house}
 use Rattle.paper.specs.Reading.{reading_by, reading}
@@ -37,7 +35,7 @@ use Rattle.demands.proofs.Stripping.{strip_answer}
 
 -- a job that writes refuses with a fault exactly where its answer, in the paper's words, is that refusal
 refused_as : (r : Output) (after : List ℕ) {a : Said} → (told r after).answer ≡ a → (fault : Fault) (place : ℕ)
-    → {P : Type 0} → (a ≡ refused (number_of fault) place) ↔ P → (r ≡ Refused fault place) ↔ P
+    → {P : Type 0} → (a ≡ refused (number_of fault) place) ↔ P → (r ≡ refusal fault place) ↔ P
 refused_as r after h fault place exactly =
     let t = told_refused r after fault place in
     ((λ p. exactly.0 (sym h ∙ t.0 p)), λ x. t.1 (h ∙ exactly.1 x))
@@ -91,17 +89,17 @@ module _ (s : Session) (e : ℕ) (file before : List ℕ) where
   faulty : {n place : ℕ} → (answer_for s e file before ≡ refused n place) ↔ ExtractFaulty s e file before n place
   unfolding entity_given
   faulty =
-      let new : List ℕ = extract s.currency e file in
-      unless (within 1 499 e && get_or s.roster e false) 208 (FaultyOrShort (rules_of s) file new before) _ (read_then_room (rules_of s) file new before)
+      let new : List ℕ = extract s.rules.currency e file in
+      unless (within 1 499 e && get_or s.rules.roster e false) 208 (FaultyOrShort (rules_of s) file new before) _ (read_then_room (rules_of s) file new before)
 
   pub extract_named : (r : Output) (after : List ℕ) → Extracts s e file before r after → (fault : Fault) (place : ℕ)
-      → (r ≡ Refused fault place) ↔ ExtractFaulty s e file before (number_of fault) place
+      → (r ≡ refusal fault place) ↔ ExtractFaulty s e file before (number_of fault) place
   extract_named r after h fault place = refused_as r after (extract_answer s e file before r after h) fault place faulty
 
 -- ---- stripping
 
 pub strip_named : (s : Session) (file before : List ℕ) (r : Output) (after : List ℕ) → Strips s file before r after → (fault : Fault) (place : ℕ)
-    → (r ≡ Refused fault place) ↔ StripFaulty s file before (number_of fault) place
+    → (r ≡ refusal fault place) ↔ StripFaulty s file before (number_of fault) place
 strip_named s file before r after h fault place =
     refused_as r after (strip_answer s file before r after h) fault place (read_then_room (rules_of s) file (strip file) before)
 
@@ -135,5 +133,5 @@ module _ (s : Session) (header tray before : List ℕ) where
       back (inr x) = rw (taken header tray before x.0 x.1 x.2) ((refused_exactly (rules_of s) file).1 x.3)
 
   pub build_named : (r : Output) (after : List ℕ) → Builds s header tray before r after → (fault : Fault) (place : ℕ)
-      → (r ≡ Refused fault place) ↔ BuildFaulty s header tray before (number_of fault) place
+      → (r ≡ refusal fault place) ↔ BuildFaulty s header tray before (number_of fault) place
   build_named r after h fault place = refused_as r after (build_answer s header tray before r after h) fault place build_faulty

@@ -4,10 +4,10 @@ use mathlib.Core.Bool.{Bool, true, false, not}
 use mathlib.Core.List.{List}
 use mathlib.Core.Logic.{◌↔◌, ◌⊎◌, inl, inr}
 use mathlib.Core.Path.{◌≡◌, refl, sym, ap, ◌∙◌}
-use Rattle.paper.specs.declared.answer.Answer.TheVariants.{Accepted, Refused}
+use Rattle.std.specs.Prelude.{Ok}
 use Rattle.paper.specs.declared.answer.Fault.{Fault}
 use Rattle.paper.specs.declared.answer.Fault.TheVariants.{Identifier}
-use Rattle.paper.specs.Answers.{accepted, refused, number_of, said, and_then, require}
+use Rattle.paper.specs.Answers.{accepted, refused, refusal, number_of, said, and_then, require}
 use Rattle.paper.specs.Fields.{among}
 use Rattle.paper.specs.Reading.{reading}
 use Rattle.paper.specs.Sessions as paper
@@ -34,20 +34,20 @@ module _ {s : Session} {files : List (List ℕ)} (came : Came s files) (file : L
   answers : said r.answer ≡ and_then (reading (rules_of s) file) (require (not used) 209 0)
   answers = ap (λ (x : paper.Reply). x.answer) h ∙ identifiers.presenting_exactly (in_paper came) file
 
-  pub taken_when : (r.answer ≡ Accepted) ↔ (Accepts (rules_of s) file × (used ≡ false))
+  pub taken_when : (r.answer ≡ Ok tt) ↔ (Accepts (rules_of s) file × (used ≡ false))
   unfolding and_then require
-  taken_when = (there, λ x. said_once r.answer Accepted (answers ∙ rw ((accepted_exactly (rules_of s) file).1 x.0, x.1) refl))
+  taken_when = (there, λ x. said_once r.answer (Ok tt) (answers ∙ rw ((accepted_exactly (rules_of s) file).1 x.0, x.1) refl))
     where
       new : (b : Bool) → require (not b) 209 0 ≡ accepted → b ≡ false
       new true e = absurd (required false 209 0 e)
       new false e = refl
 
-      there : r.answer ≡ Accepted → Accepts (rules_of s) file × (used ≡ false)
+      there : r.answer ≡ Ok tt → Accepts (rules_of s) file × (used ≡ false)
       there p =
           let x = both_accept (reading (rules_of s) file) (require (not used) 209 0) (sym answers ∙ ap said p) in
           ((accepted_exactly (rules_of s) file).0 x.0, new used x.1)
 
-  pub refused_when : (fault : Fault) (place : ℕ) → (r.answer ≡ Refused fault place)
+  pub refused_when : (fault : Fault) (place : ℕ) → (r.answer ≡ refusal fault place)
       ↔ (Faulty (rules_of s) file (number_of fault) place ⊎ (Accepts (rules_of s) file × (used ≡ true) × (fault ≡ Identifier) × (place ≡ 0)))
   unfolding and_then require
   refused_when fault place = (there, back)
@@ -60,11 +60,11 @@ module _ {s : Session} {files : List (List ℕ)} (came : Came s files) (file : L
           let q = require_refused (not used) 209 0 x.1 in
           inr ((accepted_exactly (rules_of s) file).0 x.0, not_not used q.0, own_number fault Identifier q.1, q.2)
 
-      there : r.answer ≡ Refused fault place
+      there : r.answer ≡ refusal fault place
           → Faulty (rules_of s) file (number_of fault) place ⊎ (Accepts (rules_of s) file × (used ≡ true) × (fault ≡ Identifier) × (place ≡ 0))
       there p = after (first_refusal (reading (rules_of s) file) (require (not used) 209 0) (sym answers ∙ ap said p))
 
       back : Faulty (rules_of s) file (number_of fault) place ⊎ (Accepts (rules_of s) file × (used ≡ true) × (fault ≡ Identifier) × (place ≡ 0))
-          → r.answer ≡ Refused fault place
-      back (inl x) = said_once r.answer (Refused fault place) (answers ∙ rw ((refused_exactly (rules_of s) file).1 x) refl)
-      back (inr x) = said_once r.answer (Refused fault place) (answers ∙ rw ((accepted_exactly (rules_of s) file).1 x.0, x.1, x.2, x.3) refl)
+          → r.answer ≡ refusal fault place
+      back (inl x) = said_once r.answer (refusal fault place) (answers ∙ rw ((refused_exactly (rules_of s) file).1 x) refl)
+      back (inr x) = said_once r.answer (refusal fault place) (answers ∙ rw ((accepted_exactly (rules_of s) file).1 x.0, x.1, x.2, x.3) refl)

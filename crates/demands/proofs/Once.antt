@@ -2,10 +2,10 @@
 use Prim.Native.Nat.{ℕ}
 use mathlib.Core.List.{List}
 use mathlib.Core.Path.{◌≡◌, sym, ap, ◌∙◌, ap₂}
-use Rattle.paper.specs.declared.answer.Answer.{Answer}
 use Rattle.paper.specs.declared.ledger.Cell.{Cell}
 use Rattle.paper.specs.declared.rules.Currency.{Currency}
 use Rattle.paper.specs.declared.rules.Rules.{Rules}
+use Rattle.paper.specs.Answers.{Answer}
 use Rattle.paper.specs.Reading.{reading}
 use Rattle.paper.specs.Sessions as paper
 use Rattle.paper.proofs.Numbers.{said_once}
@@ -17,9 +17,7 @@ use Rattle.desk.specs.Calls.{Opens, RulesOpened, OpensRules, ReadsBy, Reads, Pre
 
 pub session_once : (a b : Session) → standing a ≡ standing b → a ≡ b
 session_once a b h = λ i. record {
-  date = (h i).rules.date;
-  currency = (h i).rules.currency;
-  roster = (h i).rules.roster;
+  rules = (h i).rules;
   cells = (h i).cells;
   used = (h i).used;
 }

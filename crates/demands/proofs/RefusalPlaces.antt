@@ -58,10 +58,10 @@ module _ (file : List ℕ) where
 given_then : (s : Session) (e : ℕ) (file : List ℕ) (rest : Said) → StandsAt file rest → StandsAt file (and_then (entity_given (rules_of s) e) rest)
 unfolding entity_given among
 given_then s e file rest h =
-    both_stand (StandsAt file) (entity_given (rules_of s) e) rest tt (required_stands file (within 1 499 e && get_or s.roster e false) 208 refl) h
+    both_stand (StandsAt file) (entity_given (rules_of s) e) rest tt (required_stands file (within 1 499 e && get_or s.rules.roster e false) 208 refl) h
 
 pub extracting_stands : (s : Session) (e : ℕ) (file before : List ℕ) → StandsAt file (answer_for s e file before)
-extracting_stands s e file before = given_then s e file _ (read_then_room file s (extract s.currency e file) before)
+extracting_stands s e file before = given_then s e file _ (read_then_room file s (extract s.rules.currency e file) before)
 
 pub receiving_stands : (s : Session) (e : ℕ) (file : List ℕ) → StandsAt file (receiving (rules_of s) e file)
 unfolding receiving
@@ -101,7 +101,7 @@ module _ (file : List ℕ) where
     asking_stands =
         let stands : Said → Type 0 = ShowStandsAt file in
         both_stand stands (entity_given (rules_of s) e) _ tt
-        (required_shows (within 1 499 e && get_or s.roster e false) 208 refl)
+        (required_shows (within 1 499 e && get_or s.rules.roster e false) 208 refl)
         (both_stand stands (require (motives_good motives) 207 0) _ tt (required_shows (motives_good motives) 207 refl) (read_shows (at_desk e (rules_of s))))
 
     pub showing_stands : (place : ℕ) → ShowStandsAt file (and_then (showable (rules_of s) e file motives) (require (explains_at file place) 214 0))

@@ -6,12 +6,9 @@ use mathlib.Core.Logic.{◌↔◌}
 use mathlib.Core.Path.{◌≡◌, refl, sym, ap, ◌∙◌, ap₂, subst}
 use lib.ListN.{length, take, drop}
 use lib.Seq.{take_at}
-use Rattle.paper.specs.declared.answer.Answer.{Answer}
-use Rattle.paper.specs.declared.answer.Answer.TheVariants.{Accepted as Good}
-use Rattle.paper.specs.declared.answer.Output.{Output}
-use Rattle.paper.specs.declared.answer.Output.TheVariants.{Accepted, Refused}
+use Rattle.std.specs.Prelude.{Ok, Err}
 use Rattle.paper.specs.declared.rules.Rules.{Rules}
-use Rattle.paper.specs.Answers.{Said, accepted, refused, said}
+use Rattle.paper.specs.Answers.{Answer, Output, Said, accepted, refused, said}
 use Rattle.paper.specs.Reading.{records_of, reading}
 use Rattle.paper.specs.Writing.{joined, closing}
 use Rattle.paper.specs.Trays.{tray_records, tray_fault, build, strip}
@@ -50,7 +47,7 @@ presented_rules s file reply h = ap (λ (x : paper.Reply). x.session.rules) h �
 
 -- ---- a file that was built
 
-module _ (s : Session) (header tray before : List ℕ) (r : Output) (after : List ℕ) (h : Builds s header tray before r after) {n : ℕ} (p : r ≡ Accepted n) where
+module _ (s : Session) (header tray before : List ℕ) (r : Output) (after : List ℕ) (h : Builds s header tray before r after) {n : ℕ} (p : r ≡ Ok n) where
   answered : (building (rules_of s) header tray before).answer ≡ accepted
   answered = sym (ap (λ (o : Outcome). o.answer) h) ∙ ap (λ (x : Output). (told x after).answer) p
 
@@ -64,10 +61,10 @@ module _ (s : Session) (header tray before : List ℕ) (r : Output) (after : Lis
   module _ (t : Session) (same : rules_of t ≡ rules_of s) where
     -- what was built is accepted when it is read, out of the buffer or as it was handed over
     -- (not so with controls that no reading takes, or with a number of bytes that is not the file's)
-    pub built_reads_again : (a : Answer) → said a ≡ reading (rules_of t) (handed r after) → a ≡ Good
-    built_reads_again a e = said_once a Good (e ∙ ap (λ (rules : Rules). reading rules (handed r after)) same ∙ built_reads)
+    pub built_reads_again : (a : Answer) → said a ≡ reading (rules_of t) (handed r after) → a ≡ Ok tt
+    built_reads_again a e = said_once a (Ok tt) (e ∙ ap (λ (rules : Rules). reading rules (handed r after)) same ∙ built_reads)
 
-    pub built_reads_there : (a : Answer) → said a ≡ reading (rules_of t) (take n after) → a ≡ Good
+    pub built_reads_there : (a : Answer) → said a ≡ reading (rules_of t) (take n after) → a ≡ Ok tt
     unfolding handed
     built_reads_there a e = built_reads_again a (e ∙ ap (λ (x : Output). reading (rules_of t) (handed x after)) (sym p))
 
@@ -81,7 +78,7 @@ module _ (s : Session) (header tray before : List ℕ) (r : Output) (after : Lis
           ∙ ap₂ (λ (rules : Rules) (f : List ℕ). stripping rules f other) same the-file
           ∙ strip_built (rules_of s) header tray before other answered room
 
-      pub built_then_stripped : (q ≡ Accepted (length tray)) × (handed q later ≡ tray) × (drop (length tray) later ≡ drop (length tray) other)
+      pub built_then_stripped : (q ≡ Ok (length tray)) × (handed q later ≡ tray) × (drop (length tray) later ≡ drop (length tray) other)
       built_then_stripped =
           let e = numbers accepted tray other q later returned refl in
           let x = held accepted tray other q later returned e in
@@ -102,7 +99,7 @@ module _ (s : Session) (header tray before : List ℕ) (r : Output) (after : Lis
 -- ---- a file that was stripped
 
 -- and built again, in that session or in one of the same date, currency and roster
-module _ (s : Session) (file before : List ℕ) (r : Output) (after : List ℕ) (h : Strips s file before r after) {n : ℕ} (p : r ≡ Accepted n)
+module _ (s : Session) (file before : List ℕ) (r : Output) (after : List ℕ) (h : Strips s file before r after) {n : ℕ} (p : r ≡ Ok n)
     (t : Session) (same : rules_of t ≡ rules_of s)
     (other : List ℕ) (q : Output) (later : List ℕ) (k : Builds t (take 94 file) (handed r after) other q later) (room : length file ≤ length other) where
   reads : reading (rules_of s) file ≡ accepted
@@ -120,7 +117,7 @@ module _ (s : Session) (file before : List ℕ) (r : Output) (after : List ℕ) 
 
   -- "building from a stripped file and its own header gives the file", where it is as built; with room, and the rest of the buffer stays
   -- (not so with a build that numbers each batch's individuals from 1, or a strip that leaves out additional records)
-  pub stripped_comes_back : AsBuilt 0 0 (records_of file) → (q ≡ Accepted (length file)) × (handed q later ≡ file) × (drop (length file) later ≡ drop (length file) other)
+  pub stripped_comes_back : AsBuilt 0 0 (records_of file) → (q ≡ Ok (length file)) × (handed q later ≡ file) × (drop (length file) later ≡ drop (length file) other)
   stripped_comes_back b =
       let e = numbers accepted file other q later (returned_file b) refl in
       let x = held accepted file other q later (returned_file b) e in
@@ -133,7 +130,7 @@ module _ (s : Session) (file before : List ℕ) (r : Output) (after : List ℕ) 
   stripped_then_built = (go q refl, λ b. (stripped_comes_back b).1)
     where
       go : (x : Output) → q ≡ x → handed q later ≡ file → AsBuilt 0 0 (records_of file)
-      go (Refused fault place) e f = absurd (omega (arith, (accepted_facts (rules_of s) file reads).long, ap length (sym f ∙ ap (λ (x : Output). handed x later) e)))
-      go (Accepted m) e f =
+      go (Err r) e f = absurd (omega (arith, (accepted_facts (rules_of s) file reads).long, ap length (sym f ∙ ap (λ (x : Output). handed x later) e)))
+      go (Ok m) e f =
           let b = (build_held t (take 94 file) (handed r after) other q later k e).0 in
           (build_strips_back (rules_of s) file reads).0 (ap (build (take 94 file)) (sym the-tray) ∙ sym b ∙ f)

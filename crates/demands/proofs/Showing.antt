@@ -7,13 +7,13 @@ use mathlib.Core.Path.{◌≡◌, refl, sym, ap, ap₂, ◌∙◌, subst}
 use lib.Dec.{T, eqb→eq}
 use lib.ListN.{length, get_or}
 use borrow.Author.Tests.{eq-eqb}
-use Rattle.paper.specs.declared.answer.Answer.{Answer}
-use Rattle.paper.specs.declared.answer.Answer.TheVariants as answer
+use Rattle.std.specs.Prelude.{Result, Ok, Err}
 use Rattle.paper.specs.declared.answer.Fault.{Fault}
 use Rattle.paper.specs.declared.answer.Fault.TheVariants.{Length}
+use Rattle.paper.specs.declared.answer.Refusal.{Refusal}
 use Rattle.paper.specs.declared.record.Kind.TheVariants.{Additional}
 use Rattle.paper.specs.declared.rules.Rules.{Rules}
-use Rattle.paper.specs.Answers.{Said, accepted, number_of, said, and_then, require}
+use Rattle.paper.specs.Answers.{Answer, Said, accepted, refusal, number_of, said, and_then, require}
 use Rattle.paper.specs.Fields.{field, within, is}
 use Rattle.paper.specs.Kinds.{kind_of}
 use Rattle.paper.specs.Records.{at_desk}
@@ -27,7 +27,7 @@ use Rattle.paper.proofs.Numbers.{said_once, answered}
 use Rattle.paper.proofs.Exactly.{refused_by}
 use Rattle.received.proofs.Reasons.{explains_exactly, explains_number, line_number, text_own, text_listed, text_length}
 use Rattle.reasons.specs.declared.Shown.{Shown}
-use Rattle.reasons.specs.declared.Shown.TheVariants.{File, Motives, Refused}
+use Rattle.reasons.specs.declared.Shown.TheVariants.{File, Motives}
 use Rattle.reasons.specs.Shown.{showing_of}
 use Rattle.reasons.proofs.Parts.{shown_answer}
 use Rattle.desk.specs.declared.Session.{Session}
@@ -42,38 +42,36 @@ use Rattle.demands.proofs.Receiving.{said_as, receivable, receive_exactly}
 
 -- ---- an answer of showing, and where its text stands
 
-answer_of : Shown → Answer
-answer_of (File at) = answer.Accepted
-answer_of (Motives at) = answer.Accepted
-answer_of (Refused fault place) = answer.Refused fault place
+answer_of : Result Shown Refusal → Answer
+answer_of (Ok shown) = Ok tt
+answer_of (Err r) = Err r
 
-answer_said : (r : Shown) → said (answer_of r) ≡ (showing_of r).answer
+answer_said : (r : Result Shown Refusal) → said (answer_of r) ≡ (showing_of r).answer
 unfolding answer_of
-answer_said (File at) = refl
-answer_said (Motives at) = refl
-answer_said (Refused fault place) = refl
+answer_said (Ok shown) = refl
+answer_said (Err r) = refl
 
 -- acceptance with no text is none of them
-telling : Answer → TextPlace → Shown
-telling answer.Accepted nowhere = Refused Length 0
-telling answer.Accepted (in_file at) = File at
-telling answer.Accepted (in_motives at) = Motives at
-telling (answer.Refused fault place) text = Refused fault place
+telling : Answer → TextPlace → Result Shown Refusal
+telling (Ok done) nowhere = refusal Length 0
+telling (Ok done) (in_file at) = Ok (File at)
+telling (Ok done) (in_motives at) = Ok (Motives at)
+telling (Err r) text = Err r
 
-telling_back : (r : Shown) → telling (answer_of r) (showing_of r).text ≡ r
+telling_back : (r : Result Shown Refusal) → telling (answer_of r) (showing_of r).text ≡ r
 unfolding answer_of telling
-telling_back (File at) = refl
-telling_back (Motives at) = refl
-telling_back (Refused fault place) = refl
+telling_back (Ok (File at)) = refl
+telling_back (Ok (Motives at)) = refl
+telling_back (Err r) = refl
 
 -- what an answer says, with where the text stands, fixes it
-pub shown_once : (r q : Shown) → showing_of r ≡ showing_of q → r ≡ q
+pub shown_once : (r q : Result Shown Refusal) → showing_of r ≡ showing_of q → r ≡ q
 shown_once r q h =
     sym (telling_back r)
     ∙ ap₂ telling (said_once (answer_of r) (answer_of q) (answer_said r ∙ ap (λ (x : Showing). x.answer) h ∙ sym (answer_said q))) (ap (λ (x : Showing). x.text) h)
     ∙ telling_back q
 
-shown_refused : (r : Shown) (fault : Fault) (place : ℕ) → (r ≡ Refused fault place) ↔ (answer_of r ≡ answer.Refused fault place)
+shown_refused : (r : Result Shown Refusal) (fault : Fault) (place : ℕ) → (r ≡ refusal fault place) ↔ (answer_of r ≡ refusal fault place)
 unfolding answer_of telling
 shown_refused r fault place = (ap answer_of, λ p. sym (telling_back r) ∙ ap (λ (a : Answer). telling a (showing_of r).text) p)
 
@@ -95,17 +93,17 @@ module _ (s : Session) (e : ℕ) (file motives : List ℕ) where
 
   module _ (a : Answer) (h : Asks s e file motives a) where
     -- accepted exactly when the file is received and the list has 4,400 bytes
-    pub ask_exactly : (a ≡ answer.Accepted) ↔ (Receivable s e file × (length motives ≡ 4400))
-    ask_exactly = said_as a answer.Accepted h askable
+    pub ask_exactly : (a ≡ Ok tt) ↔ (Receivable s e file × (length motives ≡ 4400))
+    ask_exactly = said_as a (Ok tt) h askable
 
     -- else the first of 208, 207 and the reading's
     -- (not so with the list asked about after the reading, or before the entity)
-    pub ask_named : (fault : Fault) (place : ℕ) → (a ≡ answer.Refused fault place) ↔ AskFaulty s e file motives (number_of fault) place
+    pub ask_named : (fault : Fault) (place : ℕ) → (a ≡ refusal fault place) ↔ AskFaulty s e file motives (number_of fault) place
     unfolding showable entity_given
     ask_named fault place =
         let faults : ℕ → ℕ → Type 0 = FaultyBy (at_desk e (rules_of s)) file in
-        said_as a (answer.Refused fault place) h
-        (unless (within 1 499 e && get_or s.roster e false) 208 (Unless (motives_good motives) 207 faults) _
+        said_as a (refusal fault place) h
+        (unless (within 1 499 e && get_or s.rules.roster e false) 208 (Unless (motives_good motives) 207 faults) _
         (unless (motives_good motives) 207 faults _ (refused_by (at_desk e (rules_of s)) file)))
 
     pub ask_ends : Answered (ShowStandsAt file) (said a)
@@ -115,11 +113,11 @@ module _ (s : Session) (e : ℕ) (file motives : List ℕ) where
     ask_once b k = said_once a b (h ∙ sym k)
 
   -- who has asked once may go over the records by `reasons::find`: its one premise is met, and what it finds is what showing says
-  module _ (h : Asks s e file motives answer.Accepted) where
+  module _ (h : Asks s e file motives (Ok tt)) where
     pub asked_short : length file ≤ 940000
     asked_short = short (rules_of s) e file motives (sym h)
 
-    pub asked_then_found : (place : ℕ) (r : Shown) → showing_of r ≡ shown_if (require (explains_at file place) 214 0) (text_at file place) → Shows s e file motives place r
+    pub asked_then_found : (place : ℕ) (r : Result Shown Refusal) → showing_of r ≡ shown_if (require (explains_at file place) 214 0) (text_at file place) → Shows s e file motives place r
     asked_then_found place r q = found (rules_of s) e file motives place (sym h) q
 
 -- ---- the reason in the record at a place
@@ -142,7 +140,7 @@ module _ (s : Session) (e : ℕ) (file motives : List ℕ) (place : ℕ) where
     λ x. rw ((askable s e file motives).1 (x.0, x.1), x.2) refl,
   )
 
-  module _ (r : Shown) (h : Shows s e file motives place r) where
+  module _ (r : Result Shown Refusal) (h : Shows s e file motives place r) where
     says : showing_of r ≡ shown_if answer_to (text_at file place)
     unfolding showing
     says = h
@@ -157,13 +155,13 @@ module _ (s : Session) (e : ℕ) (file motives : List ℕ) (place : ℕ) where
 
     -- else the first of 208, 207, the reading's and 214, by its number and its record
     -- (not so with 214 before the reading, or with 214 at the place asked for)
-    pub show_named : (fault : Fault) (at : ℕ) → (r ≡ Refused fault at) ↔ ShowFaulty s e file motives place (number_of fault) at
+    pub show_named : (fault : Fault) (at : ℕ) → (r ≡ refusal fault at) ↔ ShowFaulty s e file motives place (number_of fault) at
     unfolding entity_given
     show_named fault at =
         let faults : ℕ → ℕ → Type 0 = FaultyOrNoReason (at_desk e (rules_of s)) file place in
-        let exactly = unless (within 1 499 e && get_or s.roster e false) 208 (Unless (motives_good motives) 207 faults) _
+        let exactly = unless (within 1 499 e && get_or s.rules.roster e false) 208 (Unless (motives_good motives) 207 faults) _
         (unless (motives_good motives) 207 faults _ (read_then (at_desk e (rules_of s)) file (explains_at file place) 214)) in
-        let x = said_as (answer_of r) (answer.Refused fault at) (answer_said r ∙ answers ∙ in_turn) exactly in
+        let x = said_as (answer_of r) (refusal fault at) (answer_said r ∙ answers ∙ in_turn) exactly in
         let y = shown_refused r fault at in
         ((λ p. x.0 (y.0 p)), λ f. y.1 (x.1 f))
 
@@ -173,9 +171,9 @@ module _ (s : Session) (e : ℕ) (file motives : List ℕ) (place : ℕ) where
         subst (Answered (ShowStandsAt file)) (answer_said r) (answered (ShowStandsAt file) (answer_of r) (answer_said r ∙ answers) (showing_stands file s e motives place))
 
     -- "shows no bytes if refused"
-    pub refused_shows_nothing : {fault : Fault} {at : ℕ} → r ≡ Refused fault at → text_in (showing_of r).text file motives ≡ []
+    pub refused_shows_nothing : {fault : Fault} {at : ℕ} → r ≡ refusal fault at → text_in (showing_of r).text file motives ≡ []
     unfolding text_in
-    refused_shows_nothing p = ap (λ (q : Shown). text_in (showing_of q).text file motives) p
+    refused_shows_nothing p = ap (λ (q : Result Shown Refusal). text_in (showing_of q).text file motives) p
 
     -- "the text in positions 36-79 of the additional record if it is not all blank, otherwise the 44-byte line for that R number": what Shown::text hands out
     -- (not so with the line of the next number, or with the trailing blanks cut off)
@@ -193,22 +191,22 @@ module _ (s : Session) (e : ℕ) (file motives : List ℕ) (place : ℕ) where
         })
 
   -- one outcome only
-  pub show_once : (r q : Shown) → Shows s e file motives place r → Shows s e file motives place q → r ≡ q
+  pub show_once : (r q : Result Shown Refusal) → Shows s e file motives place r → Shows s e file motives place q → r ≡ q
   show_once r q h k = shown_once r q (h ∙ sym k)
 
   -- in what was received, each 7 with 99 in 2-3 has its reason, of 44 bytes
   -- (not so with 214 for the last record of a batch, or with a list that ends before R99)
-  pub each_reason : Receives s e file answer.Accepted → length motives ≡ 4400
+  pub each_reason : Receives s e file (Ok tt) → length motives ≡ 4400
       → place < length file / 94 → kind_of (record_at file place) ≡ Additional → T (is (field (record_at file place) 2 3) "99")
-      → (r : Shown) → Shows s e file motives place r
+      → (r : Result Shown Refusal) → Shows s e file motives place r
       → ((showing_of r).answer ≡ accepted) × ReasonGiven file motives place (text_in (showing_of r).text file motives)
   each_reason received lines inside seven form r h =
-      let x = (receive_exactly s e file answer.Accepted received).0 refl in
+      let x = (receive_exactly s e file (Ok tt) received).0 refl in
       let reads = ((receivable s e file).1 x).1 in
       let shown = (show_exactly r h).1 (x, lines, (explains_exactly (at_desk e (rules_of s)) file reads place).1 (inside, seven, form)) in
       (shown, reason_text r h shown)
 
 -- what is shown depends on the extract, the list, the place, the entity and the session's date, currency and roster
-pub show_depends : (s t : Session) → rules_of s ≡ rules_of t → (e : ℕ) (file motives : List ℕ) (place : ℕ) (r q : Shown)
+pub show_depends : (s t : Session) → rules_of s ≡ rules_of t → (e : ℕ) (file motives : List ℕ) (place : ℕ) (r q : Result Shown Refusal)
     → Shows s e file motives place r → Shows t e file motives place q → r ≡ q
 show_depends s t same e file motives place r q h k = shown_once r q (h ∙ ap (λ (rules : Rules). showing rules e file motives place) same ∙ sym k)

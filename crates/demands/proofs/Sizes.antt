@@ -7,13 +7,12 @@ use mathlib.Core.Path.{◌≡◌, refl, ap, ◌∙◌}
 use lib.Dec.{eqb}
 use lib.ListN.{length, length-append}
 use borrow.Author.Tests.{le-leb}
+use Rattle.std.specs.Prelude.{Ok}
 use Rattle.paper.specs.declared.answer.Fault.TheVariants.{Room}
-use Rattle.paper.specs.declared.answer.Output.{Output}
-use Rattle.paper.specs.declared.answer.Output.TheVariants.{Accepted, Refused}
 use Rattle.paper.specs.declared.record.Kind.{Kind}
 use Rattle.paper.specs.declared.record.Kind.TheVariants.{FileHeader, BatchHeader, Individual, Additional, BatchControl, FileControl, Other}
 use Rattle.paper.specs.declared.rules.Rules.{Rules}
-use Rattle.paper.specs.Answers.{Said, accepted, refused, and_then, require}
+use Rattle.paper.specs.Answers.{Output, Said, accepted, refused, refusal, and_then, require}
 use Rattle.paper.specs.Fields.{within}
 use Rattle.paper.specs.Kinds.{kind_of}
 use Rattle.paper.specs.Reading.{records_of, length_good, reading_by, reading}
@@ -57,7 +56,7 @@ roomy rules header tray before l = go (tray_answer header tray) (length_good (le
 module _ (s : Session) (header tray before : List ℕ) (r : Output) (after : List ℕ) (h : Builds s header tray before r after) where
   -- header and file control, the tray's records, and a control for each LO: 94 bytes each
   -- (not so with a control for every file, batch or no batch, or with a number of bytes that counts the marks)
-  pub build_size : {n : ℕ} → r ≡ Accepted n → n ≡ (2 + length tray / 96 + batches_in 0 (bodies tray)) * 94
+  pub build_size : {n : ℕ} → r ≡ Ok n → n ≡ (2 + length tray / 96 + batches_in 0 (bodies tray)) * 94
   build_size {n} p =
       let x = (build_exactly s header tray before r after h).1 n p in
       (build_held s header tray before r after h p).1 ∙ build_length header tray x.body x.whole ∙ omega arith
@@ -67,7 +66,7 @@ module _ (s : Session) (header tray before : List ℕ) (r : Output) (after : Lis
   pub build_has_room : 940000 ≤ length before → (told r after).answer ≡ and_then (tray_answer header tray) (reading (rules_of s) (build header tray))
   build_has_room l = build_answer s header tray before r after h ∙ roomy (rules_of s) header tray before l
 
-  pub build_never_206 : 940000 ≤ length before → (place : ℕ) → r ≡ Refused Room place → ⊥
+  pub build_never_206 : 940000 ≤ length before → (place : ℕ) → r ≡ refusal Room place → ⊥
   build_never_206 l place p = let x = build_room_named s header tray before r after h place p in omega (arith, x.1, x.2)
 
 -- ---- stripping
@@ -102,12 +101,12 @@ length_strip rules file a =
 module _ (s : Session) (file before : List ℕ) (r : Output) (after : List ℕ) (h : Strips s file before r after) where
   -- a marked record of 96 bytes for each batch header, individual and additional record of the file
   -- (not so with a tray that holds controls too, or one that leaves out additional records)
-  pub strip_size : {n : ℕ} → r ≡ Accepted n → n ≡ (length (batches_of file) + length (item_records (items_of file))) * 96
+  pub strip_size : {n : ℕ} → r ≡ Ok n → n ≡ (length (batches_of file) + length (item_records (items_of file))) * 96
   strip_size {n} p = (strip_held s file before r after h p).1 ∙ length_strip (rules_of s) file ((strip_exactly s file before r after h).1 n p).reads
 
   -- a buffer of 960,000 bytes always does: a file that the reading accepts is stripped, and never 206
   -- (not so with a desk that wants room for the file beside the tray, or one that meets 206 with a file of 10,000 records)
-  pub strip_has_room : reading (rules_of s) file ≡ accepted → 960000 ≤ length before → r ≡ Accepted (length (strip file))
+  pub strip_has_room : reading (rules_of s) file ≡ accepted → 960000 ≤ length before → r ≡ Ok (length (strip file))
   strip_has_room a l =
       (strip_exactly s file before r after h).0
       (record { reads = a; room = omega (arith, length_strip (rules_of s) file a, file_length (rules_of s) file a, (accepted_facts (rules_of s) file a).short) })

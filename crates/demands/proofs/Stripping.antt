@@ -4,10 +4,9 @@ use mathlib.Core.List.{List}
 use mathlib.Core.Path.{◌≡◌, refl, sym, ◌∙◌}
 use lib.Dec.{leb, leb→le, le→leb}
 use lib.ListN.{length, drop}
+use Rattle.std.specs.Prelude.{Ok}
 use Rattle.paper.specs.declared.answer.Fault.{Fault}
-use Rattle.paper.specs.declared.answer.Output.{Output}
-use Rattle.paper.specs.declared.answer.Output.TheVariants.{Accepted, Refused}
-use Rattle.paper.specs.Answers.{accepted, and_then}
+use Rattle.paper.specs.Answers.{Output, accepted, refusal, and_then}
 use Rattle.paper.specs.Reading.{reading}
 use Rattle.paper.specs.Trays.{strip}
 use Rattle.paper.specs.Buffers.{told, written, room_for, stripping}
@@ -43,7 +42,7 @@ module _ (s : Session) (file before : List ℕ) where
 
     -- demand 1: a refused call leaves the lent buffer as it was
     -- (not so with a strip that writes as it goes and then finds no room, or one that clears the buffer first)
-    pub strip_refused : {fault : Fault} {place : ℕ} → r ≡ Refused fault place → after ≡ before
+    pub strip_refused : {fault : Fault} {place : ℕ} → r ≡ refusal fault place → after ≡ before
     strip_refused = stays (answer_to_strip s file before) (strip file) before r after says
 
     -- the first refusal is the answer: the reading's, then 206
@@ -53,7 +52,7 @@ module _ (s : Session) (file before : List ℕ) where
 
     -- accepted exactly when the reading accepts and there is room
     -- (not so with a desk that refuses all, or one that asks for as much room as the file takes)
-    pub strip_exactly : (Strippable s file before → r ≡ Accepted (length (strip file))) × ((n : ℕ) → r ≡ Accepted n → Strippable s file before)
+    pub strip_exactly : (Strippable s file before → r ≡ Ok (length (strip file))) × ((n : ℕ) → r ≡ Ok n → Strippable s file before)
     strip_exactly = (
       λ x. numbers (answer_to_strip s file before) (strip file) before r after says (no_more x),
       λ n p. all_asked (asked (answer_to_strip s file before) (strip file) before r after says p),
@@ -61,7 +60,7 @@ module _ (s : Session) (file before : List ℕ) where
 
     -- then the caller has the tray, its length is the number given, and the rest of the buffer stays
     -- (not so with a tray that keeps the file's numbers in 88-94, or a call that blanks the rest of the buffer)
-    pub strip_held : {n : ℕ} → r ≡ Accepted n → (handed r after ≡ strip file) × (n ≡ length (strip file)) × (drop n after ≡ drop n before)
+    pub strip_held : {n : ℕ} → r ≡ Ok n → (handed r after ≡ strip file) × (n ≡ length (strip file)) × (drop n after ≡ drop n before)
     strip_held = held (answer_to_strip s file before) (strip file) before r after says
 
     -- the buffer comes back as long as it was
@@ -70,7 +69,7 @@ module _ (s : Session) (file before : List ℕ) where
 
     -- the number given is within the buffer handed back
     -- (not so with a number that counts the file's bytes where the tray is shorter, or with a buffer cut short)
-    pub strip_inside : {n : ℕ} → r ≡ Accepted n → n ≤ length after
+    pub strip_inside : {n : ℕ} → r ≡ Ok n → n ≤ length after
     strip_inside = inside (answer_to_strip s file before) (strip file) before r after says
 
     -- one outcome only: two calls that are lent the same answer alike and leave the same bytes

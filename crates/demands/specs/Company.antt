@@ -1,8 +1,7 @@
 -- The words in which it is stated what becomes of a company's file: its tray, and the file that the desk builds of that.
 use Rattle.std.specs.Prelude.{ℕ, suc, ◌+◌, ◌*◌, ◌≤◌, ◌<◌, List, [], ◌∷◌, ◌⊎◌, ◌≡◌, length}
-use Rattle.paper.specs.declared.answer.Output.{Output}
 use Rattle.paper.specs.declared.rules.Currency.{Currency}
-use Rattle.paper.specs.Answers.{Said, accepted, and_then}
+use Rattle.paper.specs.Answers.{Output, Said, accepted, and_then}
 use Rattle.paper.specs.Reading.{reading}
 use Rattle.paper.specs.Writing.{numbered}
 use Rattle.paper.specs.Trays.{build}

@@ -13,17 +13,17 @@ use Rattle.demands.specs.Faults.{Unless}
 -- all that receiving asks for: an entity 1 to 499 and on the roster, and a file that is accepted at its desk
 pub record Receivable (s : Session) (e : ℕ) (file : List ℕ) : Type 0 where
   pub entity : T (within 1 499 e)
-  pub listed : T (get_or s.roster e false)
+  pub listed : T (get_or s.rules.roster e false)
   pub accepts : AcceptsBy (at_desk e (rules_of s)) file
 
 -- the first fault of receiving, its number and place: 208, then the reading's at the desk
 abbrev pub ReceiveFaulty : Session → ℕ → List ℕ → ℕ → ℕ → Type 0
-ReceiveFaulty s e file = Unless (within 1 499 e && get_or s.roster e false) 208 (FaultyBy (at_desk e (rules_of s)) file)
+ReceiveFaulty s e file = Unless (within 1 499 e && get_or s.rules.roster e false) 208 (FaultyBy (at_desk e (rules_of s)) file)
 
 -- of showing, before a record is asked for: 208, 207 for a list of another length, then the reading's
 abbrev pub AskFaulty : Session → ℕ → List ℕ → List ℕ → ℕ → ℕ → Type 0
 AskFaulty s e file motives =
-    Unless (within 1 499 e && get_or s.roster e false) 208
+    Unless (within 1 499 e && get_or s.rules.roster e false) 208
     (Unless (motives_good motives) 207
     (FaultyBy (at_desk e (rules_of s)) file))
 
@@ -35,7 +35,7 @@ FaultyOrNoReason rules file wanted n place =
 -- of showing: 208, 207, the reading's, 214
 abbrev pub ShowFaulty : Session → ℕ → List ℕ → List ℕ → ℕ → ℕ → ℕ → Type 0
 ShowFaulty s e file motives wanted =
-    Unless (within 1 499 e && get_or s.roster e false) 208
+    Unless (within 1 499 e && get_or s.rules.roster e false) 208
     (Unless (motives_good motives) 207
     (FaultyOrNoReason (at_desk e (rules_of s)) file wanted))
 

@@ -4,9 +4,8 @@ use mathlib.Core.List.{List}
 use mathlib.Core.Path.{◌≡◌, sym, ap, ◌∙◌, subst}
 use lib.ListN.{length, take, drop}
 use lib.Seq.{take_at}
-use Rattle.paper.specs.declared.answer.Output.{Output}
-use Rattle.paper.specs.declared.answer.Output.TheVariants.{Accepted}
-use Rattle.paper.specs.Answers.{Said, accepted, refused}
+use Rattle.std.specs.Prelude.{Ok}
+use Rattle.paper.specs.Answers.{Output, Said, accepted, refused}
 use Rattle.paper.specs.Buffers.{Outcome, told, over, written}
 use Rattle.paper.proofs.Lent.{over_rest}
 use Rattle.paper.proofs.Numbers.{told_once}
@@ -23,15 +22,15 @@ module _ (a : Said) (new before : List ℕ) (r : Output) (after : List ℕ) (h :
       go (refused n place) k = ap (λ (o : Outcome). o.answer) k
 
   -- accepted exactly where the answer is acceptance, with the text's length
-  pub asked : {n : ℕ} → r ≡ Accepted n → a ≡ accepted
+  pub asked : {n : ℕ} → r ≡ Ok n → a ≡ accepted
   asked p = sym answers ∙ ap (λ (x : Output). (told x after).answer) p
 
-  pub wrote : a ≡ accepted → (r ≡ Accepted (length new)) × (after ≡ over new before)
+  pub wrote : a ≡ accepted → (r ≡ Ok (length new)) × (after ≡ over new before)
   unfolding written
-  wrote e = told_once r (Accepted (length new)) after (over new before) (h ∙ ap (λ (b : Said). written b new before) e)
+  wrote e = told_once r (Ok (length new)) after (over new before) (h ∙ ap (λ (b : Said). written b new before) e)
 
   -- then the caller has the text, and the rest of the buffer stays
-  pub held : {n : ℕ} → r ≡ Accepted n → (handed r after ≡ new) × (n ≡ length new) × (drop n after ≡ drop n before)
+  pub held : {n : ℕ} → r ≡ Ok n → (handed r after ≡ new) × (n ≡ length new) × (drop n after ≡ drop n before)
   unfolding handed over
   held {n} p =
       let w = wrote (asked p) in

@@ -5,46 +5,31 @@ use mathlib.Core.List.{List}
 use mathlib.Core.Path.{◌≡◌, refl, sym, ap, ◌∙◌, ap₂}
 use lib.ListN.{length, take, drop, length-take, length-replicate}
 use borrow.Rule.Slice.PartMut.{mid_of, put_mid}
-use Rattle.paper.specs.declared.answer.Answer.{Answer}
-use Rattle.paper.specs.declared.answer.Answer.TheVariants as answer
+use Rattle.std.specs.Prelude.{Ok}
 use Rattle.paper.specs.declared.answer.Fault.{Fault}
-use Rattle.paper.specs.declared.answer.Output.{Output}
-use Rattle.paper.specs.declared.answer.Output.TheVariants.{Accepted, Refused}
 use Rattle.paper.specs.declared.rules.Rules.{Rules}
-use Rattle.paper.specs.Answers.{Said, accepted, refused, number_of, said, and_then}
+use Rattle.paper.specs.Answers.{Answer, Output, Said, accepted, refused, refusal, number_of, said}
 use Rattle.paper.specs.Reading.{reading}
 use Rattle.paper.specs.Writing.{blanks}
-use Rattle.paper.specs.Trays.{build, strip}
-use Rattle.paper.specs.Buffers.{Outcome, told, over, written, room_for, built_as, built_if, buildable, building, stripping}
+use Rattle.paper.specs.Trays.{build}
+use Rattle.paper.specs.Buffers.{Outcome, told, over, written, built_as, built_if, buildable, building}
 use Rattle.paper.proofs.Lent.{building_spaces}
 use Rattle.desk.specs.Lent.{handed}
 use Rattle.desk.proofs.Lent.{answers, asked, held}
-
--- ---- stripping
-
--- the reading's answer decides
-module _ (rules : Rules) (file buffer : List ℕ) {a : Answer} (h : said a ≡ reading rules file) {o : Outcome} where
-  pub not_stripped : {fault : Fault} {place : ℕ} → a ≡ answer.Refused fault place → o ≡ record { answer = said a; size = 0; buffer = buffer } → o ≡ stripping rules file buffer
-  unfolding stripping and_then written
-  not_stripped e w = w ∙ rw (← h, e) refl
-
-  pub was_stripped : a ≡ answer.Accepted → o ≡ written (room_for (strip file) buffer) (strip file) buffer → o ≡ stripping rules file buffer
-  unfolding stripping and_then
-  was_stripped e w = w ∙ rw (← h, e) refl
 
 -- ---- building: what was written before the reading
 
 module _ (header tray before : List ℕ) (x : Output) (after : List ℕ)
     (w : told x after ≡ written (buildable header tray before) (build header tray) before) where
   -- 207, 201, 206
-  pub not_built : (rules : Rules) {fault : Fault} {place : ℕ} → x ≡ Refused fault place → told x after ≡ building rules header tray before
+  pub not_built : (rules : Rules) {fault : Fault} {place : ℕ} → x ≡ refusal fault place → told x after ≡ building rules header tray before
   unfolding building built_if
   not_built rules {fault} {place} p =
       let e : buildable header tray before ≡ refused (number_of fault) place =
       sym (answers (buildable header tray before) (build header tray) before x after w) ∙ ap (λ (y : Output). (told y after).answer) p in
       w ∙ rw e refl
 
-  module _ {n : ℕ} (p : x ≡ Accepted n) where
+  module _ {n : ℕ} (p : x ≡ Ok n) where
     has : (handed x after ≡ build header tray) × (n ≡ length (build header tray)) × (drop n after ≡ drop n before)
     has = held (buildable header tray before) (build header tray) before x after w p
 
@@ -62,7 +47,7 @@ module _ (header tray before : List ℕ) (x : Output) (after : List ℕ)
     lent_part = let k : n - 0 ≡ n = omega arith in ap (λ (m : ℕ). take m after) k ∙ built_part.0
 
     -- the reading's answer on that part decides
-    pub was_built : (rules : Rules) {a : Answer} → said a ≡ reading rules (mid_of 0 (n - 0) after) → a ≡ answer.Accepted → told (Accepted n) after ≡ building rules header tray before
+    pub was_built : (rules : Rules) {a : Answer} → said a ≡ reading rules (mid_of 0 (n - 0) after) → a ≡ Ok tt → told (Ok n) after ≡ building rules header tray before
     unfolding building built_if built_as
     was_built rules h e =
         let r : reading rules (build header tray) ≡ accepted = ap (reading rules) (sym lent_part) ∙ sym h ∙ ap said e in
@@ -75,7 +60,7 @@ module _ (header tray before : List ℕ) (x : Output) (after : List ℕ)
         rw (lent_part, k, has.2, has.1, length-replicate {A = ℕ} (length (build header tray)) 32) refl
 
     -- refused by it, that part is all spaces
-    pub not_read : (rules : Rules) {a : Answer} → said a ≡ reading rules (mid_of 0 (n - 0) after) → {fault : Fault} {place : ℕ} → a ≡ answer.Refused fault place
+    pub not_read : (rules : Rules) {a : Answer} → said a ≡ reading rules (mid_of 0 (n - 0) after) → {fault : Fault} {place : ℕ} → a ≡ refusal fault place
         → {part : List ℕ} → part ≡ blanks (length (mid_of 0 (n - 0) after))
         → {o : Outcome} → o ≡ record { answer = said a; size = 0; buffer = put_mid 0 (n - 0) after part } → o ≡ building rules header tray before
     not_read rules h {fault} {place} e b k =

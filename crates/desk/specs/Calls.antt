@@ -1,11 +1,10 @@
 -- What a call of the desk says, by the contract of the function called; and sessions, which come from opening and presenting only.
-use Rattle.std.specs.Prelude.{ℕ, List, [], ◌≡◌}
-use Rattle.paper.specs.declared.answer.Answer.{Answer}
-use Rattle.paper.specs.declared.answer.Output.{Output}
+use Rattle.std.specs.Prelude.{ℕ, List, [], ◌≡◌, Result}
+use Rattle.paper.specs.declared.answer.Refusal.{Refusal}
 use Rattle.paper.specs.declared.ledger.Cell.{Cell}
 use Rattle.paper.specs.declared.rules.Currency.{Currency}
 use Rattle.paper.specs.declared.rules.Rules.{Rules}
-use Rattle.paper.specs.Answers.{Said, said}
+use Rattle.paper.specs.Answers.{Answer, Output, Said, said}
 use Rattle.paper.specs.Reading.{reading}
 use Rattle.paper.specs.Buffers.{told, extracting, building, stripping}
 use Rattle.paper.specs.Receiving.{receiving, showable, showing}
@@ -54,7 +53,7 @@ abbrev pub Asks : Session → ℕ → List ℕ → List ℕ → Answer → Type 
 Asks s e file motives a = said a ≡ showable (rules_of s) e file motives
 
 -- of these and the place of a record: the answer, and where the text stands
-abbrev pub Shows : Session → ℕ → List ℕ → List ℕ → ℕ → Shown → Type 0
+abbrev pub Shows : Session → ℕ → List ℕ → List ℕ → ℕ → Result Shown Refusal → Type 0
 Shows s e file motives place r = showing_of r ≡ showing (rules_of s) e file motives place
 
 -- of a session, an entity, a file and a lent buffer: the answer, and the buffer after it

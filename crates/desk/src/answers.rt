@@ -1,62 +1,33 @@
-// What the desk answers on a file: the reading's answer, and that of presenting.
+// What the desk answers on a file: the reading's answer, and whether it came before.
 ghost use Rattle.std.specs.Prelude.{◌≡◌, not};
-ghost use Rattle.paper.specs.Answers.{said, and_then, require};
-ghost use Rattle.paper.specs.Reading.{reading_by, reading};
+ghost use Rattle.paper.specs.Answers.{said, require};
+ghost use Rattle.paper.specs.Reading.{reading_by};
 
-use crate::Session;
-use paper::answer::{Answer, Fault};
-use paper::rules::{Currency, Reader, Terms};
-use reading::Reading;
+use paper::answer::{Fault, Refusal};
+use paper::rules::{Reader, Rules, Terms};
 
 // By the house, or at a member's desk.
-pub fn read_by(
-    reader: Reader,
-    date: u64,
-    currency: Currency,
-    roster: &[bool; Session::ROSTER],
-    file: &[u8],
-) -> Answer
-    ensures { said result ≡ reading_by record { session = record { date = date; currency = currency; roster = roster.now }; reader = reader } file.now }
+#[tactic(auto, using(paper::proofs::Chained::chained), unfolding(reading::specs::Said::reading_says))]
+pub fn read_by(reader: Reader, rules: &Rules, file: &[u8]) -> Result<(), Refusal>
+    ensures { said result ≡ reading_by record { session = rules.now; reader = reader } file.now }
 {
     let terms = Terms {
-        date,
-        currency,
+        date: rules.date,
+        currency: rules.currency,
+        roster: &rules.roster,
         reader,
     };
-    match reading::read(terms, roster, file) {
-        Reading::Accepted(_) => Answer::Accepted,
-        Reading::Refused(fault, place) => Answer::Refused(fault, place),
-    }
-}
-
-pub fn read(date: u64, currency: Currency, roster: &[bool; Session::ROSTER], file: &[u8]) -> Answer
-    ensures { said result ≡ reading record { date = date; currency = currency; roster = roster.now } file.now }
-{
-    read_by(Reader::House, date, currency, roster, file)
+    reading::read(terms, file)?;
+    Ok(())
 }
 
 // 209 where the identifier is used.
-fn unless_used(used: bool) -> Answer
+#[tactic(auto, using(paper::proofs::Chained::chained))]
+pub fn unless_used(used: bool) -> Result<(), Refusal>
     ensures { said result ≡ require (not used) 209 0 }
 {
     if used {
-        return Answer::Refused(Fault::Identifier, 0);
+        return Err(Fault::Identifier.at(0));
     }
-    Answer::Accepted
-}
-
-// The reading's refusals, then 209.
-pub fn present(
-    date: u64,
-    currency: Currency,
-    roster: &[bool; Session::ROSTER],
-    file: &[u8],
-    used: bool,
-) -> Answer
-    ensures { said result ≡ and_then (reading record { date = date; currency = currency; roster = roster.now } file.now)
-        (require (not used) 209 0) }
-{
-    let read = read(date, currency, roster, file);
-    let new = unless_used(used);
-    read.and_then(new)
+    Ok(())
 }

@@ -7,7 +7,7 @@ ghost use Rattle.desk.specs.Standing.{standing, holding_zeros};
 ghost use Rattle.desk.specs.Calls.{Opens, Reads, Presents, Extracts, Builds, Strips, Holds, HoldsAll, Reachable};
 
 use field::place::Record;
-use paper::answer::{Answer, Fault, Output};
+use paper::answer::Refusal;
 use paper::ledger::Cell;
 use paper::rules::{Currency, Rules};
 use reading::Reading;
@@ -20,20 +20,17 @@ pub mod rules;
 
 #[derive(Clone, Copy)]
 pub struct Session {
-    date: u64,
-    currency: Currency,
-    // whether an entity number is on the roster
-    roster: [bool; Session::ROSTER],
+    rules: Rules,
     // what each entity holds
     cells: [Cell; Session::ROSTER],
     // whether an identifier was accepted from an origin
     used: [bool; key::KEYS],
 }
 
-// The session that a job hands back, with its answer.
+// The session that opening hands back, with its answer. Beside it and not in its Ok: document 01 has a refusal hand back a session too.
 #[derive(Clone, Copy)]
 pub struct Reply {
-    pub answer: Answer,
+    pub answer: Result<(), Refusal>,
     pub session: Session,
 }
 
@@ -41,17 +38,10 @@ pub struct Reply {
 fn new(rules: Rules) -> Session
     ensures { standing result ≡ holding_zeros rules }
 {
-    let currency = rules.currency;
-    let roster = rules.roster;
-    let zero = Cell::ZERO;
-    let cells = [zero; Session::ROSTER];
-    let used = [false; key::KEYS];
     Session {
-        date: rules.date,
-        currency,
-        roster,
-        cells,
-        used,
+        rules,
+        cells: [Cell::ZERO; Session::ROSTER],
+        used: [false; key::KEYS],
     }
 }
 
@@ -85,86 +75,66 @@ impl Session {
         ensures { Opens date currency entities.now result × Reachable result.session }
     {
         let opened = rules::open(date, currency, entities);
-        let answer = opened.answer;
-        let rules = opened.rules;
         Reply {
-            answer,
-            session: new(rules),
+            answer: opened.answer,
+            session: new(opened.rules),
         }
     }
 
-    pub fn read(self, file: &[u8]) -> Answer
-        ensures { Reads self file.now result }
+    pub fn read(&self, file: &[u8]) -> Result<(), Refusal>
+        ensures { Reads self.now file.now result }
     {
-        let currency = self.currency;
-        answers::read(self.date, currency, &self.roster, file)
+        rules::read(&self.rules, file)
     }
 
     // The reading's refusals, then 209. A refusal leaves the session as it is and uses up no identifier.
-    pub fn present(self, file: &[u8]) -> Reply
-        requires { Reachable self }
-        ensures { Presents self file.now result × Reachable result.session }
+    pub fn present(&mut self, file: &[u8]) -> Result<(), Refusal>
+        requires { Reachable self.old }
+        ensures { Presents self.old file.now (record { answer = result; session = self.new }) × Reachable self.new }
     {
-        let mut session = self;
+        self.read(file)?;
         let key = key::key(file);
-        let used = session.used[key];
-        let currency = session.currency;
-        let answer = answers::present(session.date, currency, &session.roster, file, used);
-        let Answer::Accepted = answer else {
-            return Reply { answer, session };
-        };
-        ledger::post(&mut session.cells, file);
-        session.used[key] = true;
-        Reply { answer, session }
+        answers::unless_used(self.used[key])?;
+        ledger::post(&mut self.cells, file);
+        self.used[key] = true;
+        Ok(())
     }
 
     // 208, the reading's refusals, then 206; each leaves the buffer as it was. The rest of the buffer stays.
-    pub fn extract(self, entity: u64, file: &[u8], out: &mut [u8]) -> Output
-        ensures { Extracts self entity file.now out.old result out.new }
+    #[tactic(auto, using(paper::proofs::Chained::chained), unfolding(paper::specs::Buffers::extracting, paper::specs::Buffers::entity_given))]
+    pub fn extract(&self, entity: u64, file: &[u8], out: &mut [u8]) -> Result<usize, Refusal>
+        ensures { Extracts self.now entity file.now out.old result out.new }
     {
-        if !roster::is_listed(&self.roster, entity) {
-            return Output::Refused(Fault::Entity, 0);
-        }
-        let currency = self.currency;
-        let read = answers::read(self.date, currency, &self.roster, file);
-        let Answer::Accepted = read else {
-            return Output::unwritten(read);
-        };
-        extract::extract(currency, entity, file, out)
+        roster::entity_given(&self.rules.roster, entity)?;
+        rules::read(&self.rules, file)?;
+        extract::extract(self.rules.currency, entity, file, out)
     }
 
     // 207, 201, 206, each leaving the buffer as it was; then the reading's answer on the file, and spaces in its place where it refuses.
-    pub fn build(self, header: &[u8], tray: &[u8], out: &mut [u8]) -> Output
-        ensures { Builds self header.now tray.now out.old result out.new }
+    pub fn build(&self, header: &[u8], tray: &[u8], out: &mut [u8]) -> Result<usize, Refusal>
+        ensures { Builds self.now header.now tray.now out.old result out.new }
     {
-        let built = building::build(header, tray, out);
-        let Output::Accepted(size) = built else {
-            return built;
-        };
-        let currency = self.currency;
-        let read = answers::read(self.date, currency, &self.roster, &out[0..size]);
-        let Answer::Accepted = read else {
+        let size = building::build(header, tray, out)?;
+        if let Err(refusal) = rules::read(&self.rules, &out[0..size]) {
             writing::blanks(&mut out[0..size]);
-            return Output::unwritten(read);
-        };
-        built
+            return Err(refusal);
+        }
+        Ok(size)
     }
 
     // The reading's refusals, then 206; each leaves the buffer as it was.
-    pub fn strip(self, file: &[u8], out: &mut [u8]) -> Output
-        ensures { Strips self file.now out.old result out.new }
+    #[tactic(auto, using(paper::proofs::Chained::chained, crate::proofs::Asking::read_short), unfolding(paper::specs::Buffers::stripping))]
+    pub fn strip(&self, file: &[u8], out: &mut [u8]) -> Result<usize, Refusal>
+        ensures { Strips self.now file.now out.old result out.new }
     {
-        let currency = self.currency;
-        let read = answers::read(self.date, currency, &self.roster, file);
-        let Answer::Accepted = read else {
-            return Output::unwritten(read);
-        };
+        rules::read(&self.rules, file)?;
         strip::strip(file, out)
     }
 
     // What the session holds for an entity; nothing for a number that is none.
-    pub fn cell(self, entity: u64) -> Cell
-        ensures { Holds self entity result }
+    #[tactic(auto, unfolding(paper::specs::Sessions::cell_of))]
+    pub fn cell(&self, entity: u64) -> Cell
+        ensures { Holds self.now entity result }
     {
         if roster::is_entity(entity) {
             let e = entity as usize;
@@ -174,8 +144,8 @@ impl Session {
     }
 
     // The same of every entity number, to go through them.
-    pub fn cells(self) -> [Cell; Session::ROSTER]
-        ensures { HoldsAll self result }
+    pub fn cells(&self) -> [Cell; Session::ROSTER]
+        ensures { HoldsAll self.now result }
     {
         self.cells
     }

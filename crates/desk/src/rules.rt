@@ -9,13 +9,13 @@ ghost use Rattle.desk.specs.Calls.{OpensRules, ReadsBy, opened_to};
 
 use crate::{Session, answers, roster};
 use field::date;
-use paper::answer::{Answer, Fault};
-use paper::rules::{Currency, Rules};
+use paper::answer::{Fault, Refusal};
+use paper::rules::{Currency, Reader, Rules};
 
-// The rules of the session that an opening returns, with its answer.
+// The rules of the session that an opening returns, with its answer. Beside it and not in its Ok: document 01 has a refusal hand back a session too.
 #[derive(Clone, Copy)]
 pub struct Opened {
-    pub answer: Answer,
+    pub answer: Result<(), Refusal>,
     pub rules: Rules,
 }
 
@@ -44,17 +44,19 @@ fn new(date: u64, currency: Currency, entities: &[u64]) -> Rules
 }
 
 // A refused opening returns a session of 000101, pesos, empty roster.
+#[tactic(auto, unfolding(paper::specs::Fields::every))]
 fn not_opened(fault: Fault) -> Opened
     ensures { opened_to result ≡ record { answer = refused (number_of fault) 0; rules = rules_listed 101 Pesos [] } }
 {
     let nobody: [u64; 0] = [];
     Opened {
-        answer: Answer::Refused(fault, 0),
+        answer: Err(fault.at(0)),
         rules: new(Session::FIRST_DATE, Currency::Pesos, &nobody),
     }
 }
 
 // A bad date is 75; then a number not 1 to 499 is 208.
+#[tactic(auto, using(paper::proofs::Chained::chained, crate::proofs::Replies::opened), unfolding(paper::specs::Sessions::opening, paper::specs::Sessions::opening_answer))]
 pub fn open(date: u64, currency: Currency, entities: &[u64]) -> Opened
     ensures { OpensRules date currency entities.now result }
 {
@@ -65,15 +67,15 @@ pub fn open(date: u64, currency: Currency, entities: &[u64]) -> Opened
         return not_opened(Fault::Entity);
     }
     Opened {
-        answer: Answer::Accepted,
+        answer: Ok(()),
         rules: new(date, currency, entities),
     }
 }
 
 // The reading of a session of these rules.
-pub fn read(rules: Rules, file: &[u8]) -> Answer
-    ensures { ReadsBy rules file.now result }
+#[tactic(auto, unfolding(paper::specs::Reading::reading))]
+pub fn read(rules: &Rules, file: &[u8]) -> Result<(), Refusal>
+    ensures { ReadsBy rules.now file.now result }
 {
-    let currency = rules.currency;
-    answers::read(rules.date, currency, &rules.roster, file)
+    answers::read_by(Reader::House, rules, file)
 }

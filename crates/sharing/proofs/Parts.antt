@@ -3,52 +3,56 @@ use Prim.Native.Nat.{ℕ}
 use mathlib.Core.Bool.{true, false}
 use mathlib.Core.List.{List}
 use mathlib.Core.Path.{◌≡◌, refl, sym, ap, ◌∙◌}
-use Rattle.paper.specs.declared.answer.Output.{Output}
-use Rattle.paper.specs.declared.answer.Output.TheVariants as output
+use Rattle.std.specs.Prelude.{Some, None, Ok, Err, IsErr, IsErrAnd}
+use Rattle.std.proofs.lemmas.Result.{err_from_is_err_and}
+use Rattle.paper.specs.declared.answer.Refusal.{Refusal}
 use Rattle.paper.specs.declared.rules.Rules.{Rules}
+use Rattle.paper.specs.Answers.{Output}
 use Rattle.paper.specs.Buffers.{Outcome, told, extracting}
 use Rattle.paper.proofs.Numbers.{told_once}
-use Rattle.sharing.specs.declared.Part.{Part}
-use Rattle.sharing.specs.declared.Part.TheVariants.{Nothing, Bytes, Refused}
-use Rattle.sharing.specs.Shares.{Portion, nothing, extracted, holds_to, sharing, share_of}
+use Rattle.sharing.specs.Shares.{Part, Portion, nothing, extracted, holds_to, sharing, share_of}
 
 -- ---- a part is nothing, or an output
 
 -- of nothing, that no byte was written
 abbrev pub output_of : Part → Output
-output_of Nothing = output.Accepted 0
-output_of (Bytes n) = output.Accepted n
-output_of (Refused fault place) = output.Refused fault place
+output_of (Ok None) = Ok 0
+output_of (Ok (Some n)) = Ok n
+output_of (Err r) = Err r
 
 abbrev pub part_of : Output → Part
-part_of (output.Accepted n) = Bytes n
-part_of (output.Refused fault place) = Refused fault place
+part_of (Ok n) = Ok (Some n)
+part_of (Err r) = Err r
 
 nothing_or : Portion → Part → Part
-nothing_or (nothing buffer) r = Nothing
+nothing_or (nothing buffer) r = Ok None
 nothing_or (extracted o) r = r
 
 outcome_of : Portion → Outcome
-outcome_of (nothing buffer) = told (output.Accepted 0) buffer
+outcome_of (nothing buffer) = told (Ok 0) buffer
 outcome_of (extracted o) = o
 
 part_back : (r : Part) (buffer : List ℕ) → nothing_or (share_of r buffer) (part_of (output_of r)) ≡ r
 unfolding nothing_or
-part_back Nothing buffer = refl
-part_back (Bytes n) buffer = refl
-part_back (Refused fault place) buffer = refl
+part_back (Ok None) buffer = refl
+part_back (Ok (Some n)) buffer = refl
+part_back (Err r) buffer = refl
 
 outcome_back : (r : Part) (buffer : List ℕ) → outcome_of (share_of r buffer) ≡ told (output_of r) buffer
 unfolding outcome_of
-outcome_back Nothing buffer = refl
-outcome_back (Bytes n) buffer = refl
-outcome_back (Refused fault place) buffer = refl
+outcome_back (Ok None) buffer = refl
+outcome_back (Ok (Some n)) buffer = refl
+outcome_back (Err r) buffer = refl
 
 -- what is said of a part and its buffer fixes both
 pub part_once : (r q : Part) (after later : List ℕ) → share_of r after ≡ share_of q later → (r ≡ q) × (after ≡ later)
 part_once r q after later h =
     let t = told_once (output_of r) (output_of q) after later (sym (outcome_back r after) ∙ ap outcome_of h ∙ outcome_back q later) in
     (sym (part_back r after) ∙ (λ i. nothing_or (h i) (part_of (t.0 i))) ∙ part_back q later, t.1)
+
+-- what `?` hands back at a refusal
+pub stopped_share : (x : Refusal) (r : Part) (buffer : List ℕ) → IsErr r × IsErrAnd r (λ y. y ≡ x) → share_of r buffer ≡ extracted (told (Err x) buffer)
+stopped_share x r buffer h = let p = err_from_is_err_and r h.1 in rw (p.1, p.2) refl
 
 -- ---- what sharing says
 
@@ -63,8 +67,8 @@ module _ (rules : Rules) (e : ℕ) (file buffer : List ℕ) where
 
   module _ (r : Part) (after : List ℕ) (h : share_of r after ≡ sharing rules e file buffer) where
     -- no record: nothing, and the buffer stays
-    pub gets_nothing : holds_to e file ≡ false → (r ≡ Nothing) × (after ≡ buffer)
-    gets_nothing n = part_once r Nothing after buffer (h ∙ sym (none_held n))
+    pub gets_nothing : holds_to e file ≡ false → (r ≡ Ok None) × (after ≡ buffer)
+    gets_nothing n = part_once r (Ok None) after buffer (h ∙ sym (none_held n))
 
     -- a record: what extracting says, and that is not nothing
     pub gets_some : holds_to e file ≡ true → told (output_of r) after ≡ extracting rules e file buffer

@@ -1,14 +1,16 @@
 -- A file shared out: what is handed out to one entity.
-use Rattle.std.specs.Prelude.{ℕ, Bool, true, false, List, ◌≡◌, leb, length}
-use Rattle.paper.specs.declared.answer.Output.TheVariants as output
+use Rattle.std.specs.Prelude.{ℕ, Bool, true, false, List, ◌≡◌, leb, length, Option, Some, None, Result, Ok, Err}
+use Rattle.paper.specs.declared.answer.Refusal.{Refusal}
 use Rattle.paper.specs.declared.rules.Rules.{Rules}
 use Rattle.paper.specs.Extract.{items_to}
 use Rattle.paper.specs.Buffers.{Outcome, told, extracting}
 use Rattle.paper.specs.Demands.{items_of}
 use Rattle.desk.specs.declared.Session.{Session}
 use Rattle.desk.specs.Standing.{rules_of}
-use Rattle.sharing.specs.declared.Part.{Part}
-use Rattle.sharing.specs.declared.Part.TheVariants.{Nothing, Bytes, Refused}
+
+-- what is handed out to one entity: nothing, or so many bytes of the buffer; or a refusal
+abbrev pub Part : Type 0
+Part = Result (Option ℕ) Refusal
 
 -- nothing, with the buffer as it is handed back, or what extracting says
 pub data Portion : Type 0 where
@@ -29,9 +31,9 @@ sharing rules e file buffer = share_if (holds_to e file) (extracting rules e fil
 
 -- what the library says, with the buffer that it hands back
 abbrev pub share_of : Part → List ℕ → Portion
-share_of Nothing buffer = nothing buffer
-share_of (Bytes n) buffer = extracted (told (output.Accepted n) buffer)
-share_of (Refused fault place) buffer = extracted (told (output.Refused fault place) buffer)
+share_of (Ok None) buffer = nothing buffer
+share_of (Ok (Some n)) buffer = extracted (told (Ok n) buffer)
+share_of (Err r) buffer = extracted (told (Err r) buffer)
 
 -- of a session, an entity, a file and a lent buffer: the part, and the buffer after it
 abbrev pub Shares : Session → ℕ → List ℕ → List ℕ → Part → List ℕ → Type 0

@@ -6,19 +6,8 @@ ghost use Rattle.sharing.specs.Shares.{holds_to, Shares};
 
 use desk::Session;
 use field::{individual, kind};
-use paper::answer::{Fault, Output};
+use paper::answer::Refusal;
 use paper::record::Kind;
-
-// What is handed out to one entity.
-#[derive(Clone, Copy)]
-pub enum Part {
-    // no batch of the file holds a record to it
-    Nothing,
-    // its extract, so many bytes at the front of the buffer
-    Bytes(usize),
-    // 208, the reading's refusals, 206
-    Refused(Fault, usize),
-}
 
 // Whether a batch of the file holds a record to the entity. The file may have any length: nobody has read it yet.
 #[tactic(auto, using(crate::proofs::Looking::whole, crate::proofs::Looking::none_left, crate::proofs::Looking::lent_size))]
@@ -45,15 +34,20 @@ fn holds(entity: u64, file: &[u8]) -> bool
     false
 }
 
+// The entity's extract, so many bytes at the front of the buffer; nothing where no batch of the file holds a record to it. Or 208, the reading's refusals, 206.
 // Looked through before it is read, since callers ask for every number. Nothing and every refusal leave the buffer as it was.
-pub fn share(session: Session, entity: u64, file: &[u8], out: &mut [u8]) -> Part
-    ensures { Shares session entity file.now out.old result out.new }
+#[tactic(auto, using(crate::proofs::Parts::stopped_share), unfolding(crate::specs::Shares::sharing))]
+pub fn share(
+    session: &Session,
+    entity: u64,
+    file: &[u8],
+    out: &mut [u8],
+) -> Result<Option<usize>, Refusal>
+    ensures { Shares session.now entity file.now out.old result out.new }
 {
     if !holds(entity, file) {
-        return Part::Nothing;
+        return Ok(None);
     }
-    match session.extract(entity, file, out) {
-        Output::Accepted(size) => Part::Bytes(size),
-        Output::Refused(fault, place) => Part::Refused(fault, place),
-    }
+    let size = session.extract(entity, file, out)?;
+    Ok(Some(size))
 }

@@ -1,26 +1,16 @@
-use Rattle.std.proofs.Common.{length, ◌≤◌}
+use Rattle.std.proofs.Common.{refl, Ok, Err, ◌∙◌}
+use Rattle.paper.proofs.Chained.{stopped_told}
 use Rattle.desk.proofs.Traying.{not_built, built_part, was_built, not_read}
 use Rattle.desk.proofs.Session.build.Goals as goal
-use Rattle.desk.proofs.Session.build.Goals.{In-Accepted}
 
-pub returns-in_default : goal.returns-in_default
-returns-in_default c = not_built _ _ _ _ _ c.build-built.ensures _ c.in_default.is
+pub returns-in_err-size : goal.returns-in_err-size
+returns-in_err-size c = stopped_told _ _ _ c.from_residual.ensures ∙ not_built _ _ _ (Err _) _ c.in_err-size.ensures _ refl
 
--- the file is within the buffer
-inside : (c : In-Accepted) → c.in-Accepted.size ≤ length c.build-built.new.out
-inside c = (built_part _ _ _ _ _ c.build-built.ensures c.in-Accepted.is).2
-
-pub returns-in_default-read : goal.returns-in_default-read
-returns-in_default-read c =
-    not_read _ _ _ _ _ c.build-built.ensures c.in-Accepted.is _ c.read-read.ensures c.in_default-read.is
-    c.blanks.ensures (c.unwritten.ensures _)
+pub returns-in-Err : goal.returns-in-Err
+returns-in-Err c = not_read _ _ _ (Ok _) _ c.in_ok-size.ensures refl _ c.in-Err.ensures refl c.blanks.ensures refl
 
 pub returns : goal.returns
-returns c =
-    was_built _ _ _ _ _ c.build-built.ensures c.in-Accepted.is _ c.read-read.ensures c.in-Accepted-read.is
+returns c = was_built _ _ _ (Ok _) _ c.in_ok-size.ensures refl _ c.read.ensures c.in_default.is
 
 pub slice_bounds-read-end : goal.slice_bounds-read-end
-slice_bounds-read-end c = inside (goal.at.slice_bounds-read-end c).In-Accepted
-
-pub slice_bounds-blanks-end : goal.slice_bounds-blanks-end
-slice_bounds-blanks-end c = inside (goal.at.slice_bounds-blanks-end c).In-Accepted
+slice_bounds-read-end c = (built_part _ _ _ (Ok _) _ c.in_ok-size.ensures refl).2

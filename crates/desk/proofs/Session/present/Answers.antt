@@ -1,34 +1,40 @@
-use Rattle.std.proofs.Common.{set, true, ◌≡◌}
-use Rattle.paper.specs.Answers.{said}
-use Rattle.paper.specs.Sessions.{answer_to}
+use Rattle.std.proofs.Common.{ap, arith, set, sym, true, Ok, ◌∙◌}
 use Rattle.paper.proofs.Accepted.{accepted_facts}
+use Rattle.paper.proofs.Chained.{stopped_said}
+use Rattle.paper.proofs.Identifiers.{identifier_good}
 use Rattle.desk.specs.Standing.{rules_of, standing}
 use Rattle.desk.proofs.Calls.{room}
-use Rattle.desk.proofs.Replies.{answers_so, stays, read_so, posts, presented_so}
+use Rattle.desk.proofs.Replies.{reply, by_reading, by_identifier, posts, presented_so}
 use Rattle.desk.proofs.Session.present.Goals as goal
-use Rattle.desk.proofs.Session.present.Goals.{After-present-answer}
 
--- the answer is the paper's
-answers : (c : After-present-answer) → said c.present-answer.result ≡ answer_to (standing c.args.self) c.args.file.now
-answers c =
-    answers_so (standing c.args.self) c.args.file.now c.present-answer.ensures c.key-key.ensures.0
+pub returns-in_err-read : goal.returns-in_err-read
+returns-in_err-read c =
+    let s = c.args.self.now in
+    presented_so s _ c.requires (record { answer = c.from_residual.result; session = s })
+    (ap (λ a. reply a (standing s)) (stopped_said _ _ c.from_residual.ensures) ∙ by_reading (standing s) _ _ c.in_err-read.ensures)
 
-pub returns-in_default : goal.returns-in_default
-returns-in_default c =
-    presented_so c.args.self c.args.file.now c.requires (record { answer = c.present-answer.result; session = c.args.self })
-    (stays (standing c.args.self) c.args.file.now c.present-answer.result (answers (goal.at.returns-in_default c).After-present-answer) c.in_default.is)
+pub key-key-requires : goal.key-key-requires
+key-key-requires c =
+    let reads = sym c.in_ok-read.ensures in
+    record {
+      file_len_bound = omega (arith, (accepted_facts (rules_of c.args.self.now) _ reads).long);
+      identifier_good = identifier_good (rules_of c.args.self.now) _ reads;
+    }
+
+pub returns-in_err-unless_used : goal.returns-in_err-unless_used
+returns-in_err-unless_used c =
+    let s = c.args.self.now in
+    presented_so s _ c.requires (record { answer = c.from_residual-in_err-unless_used.result; session = s })
+    (ap (λ a. reply a (standing s)) (stopped_said _ _ c.from_residual-in_err-unless_used.ensures)
+    ∙ by_identifier (standing s) _ c.in_ok-read.ensures c.key-key.ensures.0 _ c.in_err-unless_used.ensures)
 
 pub post-requires : goal.post-requires
 post-requires c =
-    let r = read_so (standing c.args.self) c.args.file.now c.present-answer.result (answers (goal.at.post-requires c).After-present-answer) c.in-Accepted.is in
-    record { file_len_bound = (accepted_facts (rules_of c.args.self) c.args.file.now r).short; by_index = room c.requires }
+    record { file_len_bound = (accepted_facts (rules_of c.args.self.now) _ (sym c.in_ok-read.ensures)).short; by_index = room c.requires }
 
 pub returns : goal.returns
 returns c =
-    let s = c.args.self in
-    presented_so s c.args.file.now c.requires
-    (record {
-      answer = c.present-answer.result;
-      session = record { date = s.date; currency = s.currency; roster = s.roster; cells = c.post.new.cells; used = set s.used c.key-key.result true };
-    })
-    (posts (standing s) c.args.file.now c.present-answer.result (answers (goal.at.returns c).After-present-answer) c.in-Accepted.is c.key-key.ensures.0 c.post.ensures)
+    let s = c.args.self.now in
+    presented_so s _ c.requires
+    (record { answer = Ok tt; session = record { rules = s.rules; cells = c.post.new.cells; used = set s.used c.key-key.result true } })
+    (posts (standing s) _ c.in_ok-read.ensures c.key-key.ensures.0 c.in_ok-unless_used.ensures c.post.ensures)
