@@ -137,8 +137,7 @@ impl Session {
         ensures { Holds self.now entity result }
     {
         if roster::is_entity(entity) {
-            let e = entity as usize;
-            return self.cells[e];
+            return self.cells[entity as usize];
         }
         Cell::ZERO
     }

@@ -16,23 +16,12 @@ pub fn is_entity(n: u64) -> bool
     number::within(FIRST, Session::LAST, n)
 }
 
-// An entity number that is on the roster.
-fn is_listed(roster: &[bool; Session::ROSTER], n: u64) -> bool
-    ensures { result ≡ (within 1 499 n && get_or roster.now n false) }
-{
-    if is_entity(n) {
-        let e = n as usize;
-        return roster[e];
-    }
-    false
-}
-
 // 208 for an entity number that is none, or not on the roster.
 #[tactic(auto, using(paper::proofs::Chained::chained))]
 pub fn entity_given(roster: &[bool; Session::ROSTER], entity: u64) -> Result<(), Refusal>
     ensures { said result ≡ require (within 1 499 entity && get_or roster.now entity false) 208 0 }
 {
-    if is_listed(roster, entity) {
+    if is_entity(entity) && roster[entity as usize] {
         return Ok(());
     }
     Err(Fault::Entity.at(0))

@@ -4,7 +4,7 @@ use mathlib.Core.Bool.{Bool, true, false}
 use mathlib.Core.List.{List, ◌++◌}
 use mathlib.Core.Path.{◌≡◌, sym, ◌∙◌}
 use native.Mathlib.Omega.{arith}
-use borrow.Rule.Slice.PartMut.{mid_of, put_mid, mid_len}
+use borrow.Rule.Slice.PartMut.{mid_of, put_mid}
 use lib.ListN.{length, get_or, take, drop, length-drop}
 use lib.Seq.{get_or-drop}
 use Rattle.paper.specs.declared.record.Tally.{Tally}
@@ -14,12 +14,11 @@ use Rattle.paper.proofs.Lists.{Sized}
 use Rattle.controls.specs.Bounds.{Below}
 use Rattle.paper.specs.Reading.{record_at}
 use Rattle.controls.proofs.Bounds.{below_more}
-use Rattle.writing.proofs.Laying.{kept}
 use Rattle.picking.specs.Places.{Placed, chosen}
 use Rattle.batches.specs.Blocks.{own_at, own_of, with_record, block, Batched}
-use Rattle.batches.proofs.Own.{own_sized, own_fewer, own_inside}
+use Rattle.batches.proofs.Own.{own_sized, own_inside}
 use Rattle.batches.proofs.Copying.{Copied, counted_below, room_left, one_copied, all_copied}
-use Rattle.batches.proofs.Parts.{rest_of, own_room, control_room, batch_laid}
+use Rattle.batches.proofs.Parts.{rest_of, own_room, batch_laid}
 use Rattle.extract.specs.Blocks.{ToCopy}
 use Rattle.picking.proofs.Chosen.{chosen_sized, length_chosen, at_index}
 
@@ -32,7 +31,7 @@ module _ {file places before after : List ℕ} {i : ℕ} {t : Tally} (asked : To
   sized : Sized 94 (chosen file places)
   sized = chosen_sized file places asked.placed
 
-  pub places_few : i ≤ 10000
+  places_few : i ≤ 10000
   places_few = omega (arith, c.inside, length_chosen file places, asked.few)
 
   pub tally_below : Below (10 ^ 18) t
@@ -40,30 +39,20 @@ module _ {file places before after : List ℕ} {i : ℕ} {t : Tally} (asked : To
 
   -- there is one more
   module _ {own : Bool} (a : own ≡ own_at (drop i (chosen file places))) (h : own ≡ true) where
-    pub inside : i < length places
+    inside : i < length places
     inside = omega (arith, own_inside (chosen file places) i (sym a ∙ h), length_chosen file places)
-
-    pub falls : length places - (i + 1) < length places - i
-    falls = omega (arith, inside)
 
     pub room_for : i * 94 + 94 ≤ length after
     room_for = room_left sized c (at_index file places i inside) (sym a ∙ h) asked.room
 
-    pub room_long : (rec : List ℕ) → length rec ≡ 94 → length (mid_of (i * 94) (i * 94 + 94 - i * 94) after) ≡ length rec
-    room_long rec z = mid_len (i * 94) (i * 94 + 94) after room_for ∙ omega (arith, z)
-
-    -- read once to be copied, and again to be counted
-    pub one_done : {rec again part : List ℕ} {u : Tally} → rec ≡ record_at file (get_or places i 0) → again ≡ record_at file (get_or places i 0) → part ≡ rec
-        → u ≡ with_record (kind_of again) t again → Copied (chosen file places) before (i + 1) u (put_mid (i * 94) (i * 94 + 94 - i * 94) after part)
-    one_done q r b f = one_copied sized c (at_index file places i inside) (sym a ∙ h) (rw r at f) (rw (b, q))
+    pub one_done : {rec part : List ℕ} {u : Tally} → rec ≡ record_at file (get_or places i 0) → part ≡ rec → u ≡ with_record (kind_of rec) t rec
+        → Copied (chosen file places) before (i + 1) u (put_mid (i * 94) (i * 94 + 94 - i * 94) after part)
+    one_done q b f = one_copied sized c (at_index file places i inside) (sym a ∙ h) (rw q at f) (rw (b, q))
 
   -- there is no more
   module _ {own : Bool} (a : own ≡ own_at (drop i (chosen file places))) (h : own ≡ false) where
     pub all_batched : Batched (own_of (chosen file places)) (own_of (chosen file places)) before after i t
     all_batched = all_copied sized c (sym a ∙ h)
-
-    pub still_long : length after ≡ length before
-    still_long = kept c.wrote (omega (arith, all_batched.count, asked.room))
 
 -- ---- the whole batch
 
@@ -89,13 +78,6 @@ module _ (number : ℕ) {file places before head rec : List ℕ} (asked : ToCopy
 
     rest_sized : Sized 94 (own_of (chosen file (drop 1 places)))
     rest_sized = own_sized (chosen file (drop 1 places)) (chosen_sized file (drop 1 places) (placed_rest file places 1 asked.placed))
-
-    -- at most 10,000 of them
-    pub rest_few : n ≤ 10000
-    rest_few = omega (arith, own.count, own_fewer (chosen file (drop 1 places)), length_chosen file (drop 1 places), length-drop 1 places, asked.few)
-
-    pub control_fits : (n + 1) * 94 + 94 ≤ length (put_mid 94 (length (head ++ drop 94 before) - 94) (head ++ drop 94 before) copied)
-    control_fits = control_room before number rec long h rest_sized asked.room own
 
     pub batch_whole : {control : List ℕ} → control ≡ batch_control_of (numbered number rec) t
         → Batched (block number (record_at file (get_or places 0 0)) (own_of (chosen file (drop 1 places)))) (own_of (chosen file (drop 1 places))) before

@@ -2,7 +2,7 @@
 ghost use Rattle.std.specs.Prelude.{◌≡◌, ◌+◌, ◌≤◌, ◌<◌, length, get_or, drop};
 ghost use Rattle.paper.specs.Reading.{record_at};
 ghost use Rattle.picking.specs.Places.{Placed, chosen};
-ghost use Rattle.batches.specs.Blocks.{own_at, own_of, block, Batched};
+ghost use Rattle.batches.specs.Blocks.{own_of, block, Batched};
 ghost use Rattle.extract.specs.Blocks.{ToCopy};
 
 use batches::records;
@@ -18,18 +18,6 @@ pub struct Batch {
     pub tally: Tally,
 }
 
-// Whether there is a record at this index that belongs to the batch.
-fn own_at(file: &[u8], places: &[u16], i: usize) -> bool
-    requires { (length file.now ≤ 940000) × Placed file.now places.now }
-    ensures { result ≡ own_at (drop i (chosen file.now places.now)) }
-{
-    if i < places.len() {
-        let place = places[i] as usize;
-        return !batches::opens(place::record_at(file, place));
-    }
-    false
-}
-
 // The records up to the next batch header, one after the other.
 fn own(dst: &mut [u8], file: &[u8], places: &[u16]) -> Batch
     requires { ToCopy file.now places.now dst.old (length (own_of (chosen file.now places.now))) }
@@ -37,16 +25,19 @@ fn own(dst: &mut [u8], file: &[u8], places: &[u16]) -> Batch
         dst.old dst.new result.records result.tally }
 {
     let mut tally = tally::NONE;
-    let mut i: usize = 0;
-    while own_at(file, places, i) {
-        let place = places[i] as usize;
-        let rec = place::record_at(file, place);
+    for (i, place) in places.iter().enumerate() {
+        let rec = place::record_at(file, *place as usize);
+        if batches::opens(rec) {
+            return Batch { records: i, tally };
+        }
         let at = i * Record::LENGTH;
-        writing::copy(&mut dst[at..at + Record::LENGTH], rec);
-        tally = batches::count(tally, place::record_at(file, place));
-        i += 1;
+        dst[at..at + Record::LENGTH].copy_from_slice(rec);
+        tally = batches::count(tally, rec);
     }
-    Batch { records: i, tally }
+    Batch {
+        records: places.len(),
+        tally,
+    }
 }
 
 // The batch whose header stands at the first of the places.

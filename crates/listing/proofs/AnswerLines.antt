@@ -1,29 +1,16 @@
 -- The lines of answers: how they are made up, how long their words are, and when an opening prints nothing.
-use Prim.Native.Nat.{ℕ, ◌+◌, ◌≤◌}
-use mathlib.Core.List.{List, [], ◌++◌, append_assoc}
+use Prim.Native.Nat.{◌≤◌}
+use mathlib.Core.List.{[], ◌++◌}
 use mathlib.Core.Logic.{◌↔◌}
-use mathlib.Core.Path.{◌≡◌, refl, sym, ap, ◌∙◌}
+use mathlib.Core.Path.{◌≡◌, refl, ap}
 use native.Mathlib.Omega.{arith}
 use lib.ListN.{length, length-append}
-use Rattle.paper.specs.declared.answer.Output.{Output}
-use Rattle.paper.specs.declared.answer.Output.TheVariants.{Accepted}
 use Rattle.paper.specs.Answers.{Said, accepted, refused}
-use Rattle.paper.specs.Buffers.{told}
 use Rattle.paper.specs.Fields.{bytes}
-use Rattle.paper.specs.Listing.{decimal, line_feed, refusal_line}
-use Rattle.writing.specs.Laid.{laid}
+use Rattle.paper.specs.Listing.{line_feed, refusal_line}
 use Rattle.writing.proofs.Decimals.{decimal_most}
-use Rattle.listing.specs.Answers.{answer_line, bytes_line, output_line, opening_line, answer_words, part_line}
-
--- the last word and the line feed are written as one
-pub as_bytes : (output : Output) {n : ℕ} → output ≡ Accepted n → bytes "ACCEPTED " ++ decimal n ++ (bytes " BYTES" ++ line_feed) ≡ output_line (told output [])
-unfolding bytes_line output_line
-as_bytes output {n} e =
-    sym (append_assoc (bytes "ACCEPTED " ++ decimal n) (bytes " BYTES") line_feed) ∙ ap (λ (o : Output). output_line (told o [])) (sym e)
-
-pub as_part : (entity size : ℕ) → decimal entity ++ bytes " " ++ decimal size ++ (bytes " BYTES" ++ line_feed) ≡ part_line entity size
-unfolding part_line
-as_part entity size = sym (append_assoc (decimal entity ++ bytes " " ++ decimal size) (bytes " BYTES") line_feed)
+use Rattle.listing.proofs.Showing.{shown_most}
+use Rattle.listing.specs.Answers.{answer_line, opening_line, answer_words}
 
 -- an opening prints nothing exactly where it is accepted
 pub opening_silent : (a : Said) → (opening_line a ≡ []) ↔ (a ≡ accepted)
@@ -45,7 +32,5 @@ unfolding answer_words
 words_most accepted = omega arith
 words_most (refused n place) = simp length-append (omega (arith, decimal_most n, decimal_most place))
 
--- the same text laid there, said otherwise
-pub laid_as : (at : ℕ) {text other : List ℕ} (buffer : List ℕ) {after : List ℕ} {n : ℕ} → text ≡ other → (n ≡ at + length text) × (after ≡ laid at text buffer)
-    → (n ≡ at + length other) × (after ≡ laid at other buffer)
-laid_as at buffer e w = (w.0 ∙ ap (λ (l : List ℕ). at + length l) e, w.1 ∙ ap (λ (l : List ℕ). laid at l buffer) e)
+-- what the check needs of lines with an answer or a name in them
+pub ruleset told_lines = (answer_words_lem, words_most, shown_most)

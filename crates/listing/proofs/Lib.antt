@@ -1,3 +1,4 @@
+pub mod Written
 pub mod Parts
 pub mod Taking
 pub mod Printing

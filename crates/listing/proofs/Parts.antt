@@ -6,22 +6,15 @@ use mathlib.Core.Path.{◌≡◌}
 use native.Mathlib.Numerals.{add-one}
 use native.Mathlib.Omega.{arith}
 use lib.Dec.{eqb}
-use lib.IntN.{nat_abs}
+use lib.IntN.{ℤ, nat_abs}
 use lib.ListN.{length, get_or, length-append}
 use Rattle.paper.specs.declared.ledger.Cell.{Cell}
 use Rattle.paper.specs.Fields.{bytes}
 use Rattle.paper.specs.Listing.{decimal, signed_decimal, line_feed, figures_line, entity_line, entity_lines, plus_cell, cell_sums, listing}
 use Rattle.paper.specs.Sessions.{zero_cell}
 use Rattle.writing.proofs.Decimals.{length_decimal, width_most, decimal_most, signed_most}
-
--- two counts and a blank
-pub counts_most : (sent received : ℕ) → length (decimal sent ++ bytes " " ++ decimal received) ≤ 41
-counts_most sent received = simp length-append (omega (arith, decimal_most sent, decimal_most received))
-
-pub figures_parts : (c : Cell)
-    → bytes " " ++ (decimal c.sent ++ bytes " " ++ decimal c.received) ++ bytes " " ++ signed_decimal c.position ++ line_feed ≡ figures_line [] c
-unfolding figures_line
-figures_parts c = simp append_assoc
+use Rattle.writing.proofs.Laying.{nothing_laid}
+use Rattle.writing.proofs.Signs.{there}
 
 -- a name goes before the figures
 pub named : (name : List ℕ) (c : Cell) → figures_line name c ≡ name ++ figures_line [] c
@@ -32,6 +25,12 @@ named name c = simp append_assoc
 pub figures_most : (c : Cell) → nat_abs c.position ≤ 4 * 10 ^ 18 → length (figures_line [] c) ≤ 64
 unfolding figures_line
 figures_most c h = simp (length-append) (omega (arith, decimal_most c.sent, decimal_most c.received, signed_most 19 c.position (omega arith) (omega arith)))
+
+pub position_most : (n : ℤ) → nat_abs n ≤ 4 * 10 ^ 18 → length (signed_decimal n) ≤ 20
+position_most n h = signed_most 19 n (omega arith) (omega arith)
+
+-- what the check needs of figures
+pub ruleset figured = (there, position_most, figures_most)
 
 pub name_most : (e : ℕ) → e < 1000 → length (decimal e) ≤ 3
 name_most e h = omega (arith, length_decimal e, width_most 3 e (omega arith) (omega arith))
@@ -52,6 +51,9 @@ module _ (e : ℕ) (c : Cell) where
       go : (b : Bool) → length (cond b [] (figures_line (decimal e) c)) ≤ 67
       go true = omega arith
       go false = rw (named (decimal e) c, length-append) (omega (arith, name_most e h, figures_most c k))
+
+-- what the check needs of an entity's line
+pub ruleset lined = (name_most, figures_most, no_line, a_line, nothing_laid)
 
 -- ---- all lines
 

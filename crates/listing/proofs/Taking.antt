@@ -1,35 +1,18 @@
 -- What the program takes from its input.
-use Prim.Native.Nat.{ℕ, ◌≤◌, ◌<◌}
+use Prim.Native.Nat.{ℕ, ◌≤◌}
 use mathlib.Core.Bool.{true, false}
 use mathlib.Core.List.{List}
 use mathlib.Core.Path.{◌≡◌, sym, ap, ◌∙◌}
 use native.Mathlib.Omega.{arith}
-use borrow.Author.Tests.{le-leb, lt-leb}
+use borrow.Author.Tests.{le-leb}
 use lib.ListN.{length, drop}
 use lib.Seq.{take-take}
 use Rattle.paper.specs.declared.rules.Currency.TheVariants.{Pesos, Dollars}
 use Rattle.paper.specs.Fields.{field, within, number}
-use Rattle.paper.specs.Dates.{date_field}
 use Rattle.paper.specs.Entities.{entity_value, of_currency}
-use Rattle.paper.specs.Listing.{has_header, date_in, currency_in}
+use Rattle.paper.specs.Listing.{has_header, currency_in}
 
 module _ (file : List ℕ) where
-  pub no_date : length file < 94 → 101 ≡ date_in file
-  unfolding date_in has_header
-  no_date h = rw (lt-leb 94 (length file) h)
-
-  pub bad_date : 94 ≤ length file → date_field (field file 24 29) ≡ false → 101 ≡ date_in file
-  unfolding date_in has_header
-  bad_date h d = rw (le-leb 94 (length file) h, d)
-
-  pub its_date : 94 ≤ length file → date_field (field file 24 29) ≡ true → number (field file 24 29) ≡ date_in file
-  unfolding date_in has_header
-  its_date h d = rw (le-leb 94 (length file) h, d)
-
-  pub no_currency : length file < 94 → Pesos ≡ currency_in file
-  unfolding currency_in has_header
-  no_currency h = rw (lt-leb 94 (length file) h)
-
   -- the four digits of an entity field are 15-18
   in_15_18 : of_currency Dollars (field file 15 22) ≡ within 501 999 (number (field file 15 18))
   unfolding of_currency entity_value

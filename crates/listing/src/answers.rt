@@ -6,10 +6,11 @@ ghost use Rattle.listing.specs.Room.{Written};
 ghost use Rattle.listing.specs.Answers.{answer_line, output_line, opening_line, named_line, part_line, word_line};
 
 use crate::{Listing, lines, shown};
-use paper::answer::{Answer, Output};
+use paper::answer::Refusal;
 
 // Of a file read or presented.
-pub fn answer(answer: Answer, out: &mut [u8; Listing::LINE]) -> usize
+#[tactic(auto, using(crate::proofs::Written::written, crate::proofs::AnswerLines::told_lines))]
+pub fn answer(answer: Result<(), Refusal>, out: &mut [u8; Listing::LINE]) -> usize
     ensures { Written (answer_line (said answer)) result out.old out.new }
 {
     let past_words = lines::answer(out, 0, answer);
@@ -17,34 +18,37 @@ pub fn answer(answer: Answer, out: &mut [u8; Listing::LINE]) -> usize
 }
 
 // Of a job that writes, with the number of bytes.
-pub fn output(output: Output, out: &mut [u8; Listing::LINE]) -> usize
+#[tactic(auto, using(crate::proofs::Written::written, crate::proofs::Written::regrouped), unfolding(crate::specs::Answers::output_line, crate::specs::Answers::bytes_line))]
+pub fn output(output: Result<usize, Refusal>, out: &mut [u8; Listing::LINE]) -> usize
     ensures { Written (output_line (told output [])) result out.old out.new }
 {
     match output {
-        Output::Accepted(bytes) => {
+        Ok(bytes) => {
             let word = writing::text(out, 0, b"ACCEPTED ");
             let past_bytes = writing::number(out, word, bytes as u64);
             writing::text(out, past_bytes, b" BYTES\n")
         }
-        Output::Refused(fault, place) => lines::refusal(out, 0, fault.number(), place as u64),
+        Err(refusal) => lines::refusal(out, 0, refusal),
     }
 }
 
 // Of an opening: nothing where it is accepted.
-pub fn opening(answer: Answer, out: &mut [u8; Listing::LINE]) -> usize
+#[tactic(auto, using(crate::proofs::Written::written), unfolding(crate::specs::Answers::opening_line))]
+pub fn opening(answer: Result<(), Refusal>, out: &mut [u8; Listing::LINE]) -> usize
     ensures { Written (opening_line (said answer)) result out.old out.new }
 {
     match answer {
-        Answer::Accepted => 0,
-        Answer::Refused(fault, place) => {
+        Ok(()) => 0,
+        Err(refusal) => {
             let word = writing::text(out, 0, b"OPENING ");
-            lines::refusal(out, word, fault.number(), place as u64)
+            lines::refusal(out, word, refusal)
         }
     }
 }
 
 // Of a file presented, with its name behind the answer.
-pub fn named(answer: Answer, name: &[u8], out: &mut [u8; Listing::NAMED]) -> usize
+#[tactic(auto, using(crate::proofs::Written::written, crate::proofs::AnswerLines::told_lines), unfolding(crate::specs::Answers::named_line))]
+pub fn named(answer: Result<(), Refusal>, name: &[u8], out: &mut [u8; Listing::NAMED]) -> usize
     ensures { Written (named_line (said answer) name.now) result out.old out.new }
 {
     let past_answer = lines::answer(out, 0, answer);
@@ -54,6 +58,7 @@ pub fn named(answer: Answer, name: &[u8], out: &mut [u8; Listing::NAMED]) -> usi
 }
 
 // Of what is handed out to an entity, with the number of bytes.
+#[tactic(auto, using(crate::proofs::Written::written, crate::proofs::Written::regrouped), unfolding(crate::specs::Answers::part_line))]
 pub fn part(entity: u64, bytes: usize, out: &mut [u8; Listing::LINE]) -> usize
     ensures { Written (part_line entity bytes) result out.old out.new }
 {
@@ -64,6 +69,7 @@ pub fn part(entity: u64, bytes: usize, out: &mut [u8; Listing::LINE]) -> usize
 }
 
 // Of a word of a roster's text that is no entity's number, below the opening's line.
+#[tactic(auto, using(crate::proofs::Written::written, crate::proofs::AnswerLines::told_lines), unfolding(crate::specs::Answers::word_line))]
 pub fn word(place: u64, word: &[u8], out: &mut [u8; Listing::WORD_LINE]) -> usize
     ensures { Written (word_line place word.now) result out.old out.new }
 {

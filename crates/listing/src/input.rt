@@ -8,6 +8,7 @@ use field::{date, entity};
 use paper::rules::Currency;
 
 // The header's date, or 000101 if that is none.
+#[tactic(auto, using(std::proofs::lemmas::Bool::Decides::nat_tests), unfolding(paper::specs::Listing::date_in, paper::specs::Listing::has_header))]
 pub fn date(file: &[u8]) -> u64
     ensures { result ≡ date_in file.now }
 {
@@ -21,6 +22,7 @@ pub fn date(file: &[u8]) -> u64
 }
 
 // Dollars where 15-18 are digits from 0501 to 0999, else pesos.
+#[tactic(auto, using(std::proofs::lemmas::Bool::Decides::nat_tests), unfolding(paper::specs::Listing::currency_in, paper::specs::Listing::has_header))]
 pub fn currency(file: &[u8]) -> Currency
     ensures { result ≡ currency_in file.now }
 {

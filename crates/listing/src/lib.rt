@@ -7,7 +7,7 @@ ghost use Rattle.desk.specs.Calls.{Reachable};
 ghost use Rattle.listing.specs.Room.{Written};
 
 use desk::Session;
-use paper::answer::{Answer, Fault};
+use paper::answer::Fault;
 use reasons::Shown;
 
 pub mod answers;
@@ -42,30 +42,26 @@ impl Listing {
 }
 
 // The listing of a session.
-pub fn print(session: Session, out: &mut [u8; Listing::ROOM]) -> usize
-    requires { Reachable session }
-    ensures { Written (listing (standing session).cells) result out.old out.new }
+pub fn print(session: &Session, out: &mut [u8; Listing::ROOM]) -> usize
+    requires { Reachable session.now }
+    ensures { Written (listing (standing session.now).cells) result out.old out.new }
 {
-    lines::write(session.cells(), out)
+    lines::write(&session.cells(), out)
 }
 
 // What the program `positions` prints for its input.
+#[tactic(auto, using(crate::proofs::Written::written, crate::proofs::Printing::too_long))]
 pub fn positions(input: &[u8], out: &mut [u8; Listing::ROOM]) -> usize
     ensures { Written (positions_of input.now) result out.old out.new }
 {
     if Listing::INPUT < input.len() {
-        return lines::refusal(out, 0, Fault::Length.number(), 0);
+        return lines::refusal(out, 0, Fault::Length.at(0));
     }
     let everybody = Session::everybody();
     let opened = Session::open(input::date(input), input::currency(input), &everybody);
-    let session = opened.session;
-    let reply = session.present(input);
-    let answer = reply.answer;
-    match answer {
-        Answer::Accepted => {
-            let presented = reply.session;
-            print(presented, out)
-        }
-        Answer::Refused(fault, place) => lines::refusal(out, 0, fault.number(), place as u64),
+    let mut session = opened.session;
+    match session.present(input) {
+        Ok(()) => print(&session, out),
+        Err(refusal) => lines::refusal(out, 0, refusal),
     }
 }

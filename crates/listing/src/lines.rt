@@ -1,6 +1,6 @@
 // The lines of a listing, over an array of cells, and the words of an answer.
-ghost use Rattle.std.specs.Prelude.{◌≡◌, [], ◌++◌, ℕ, ◌+◌, ◌*◌, ◌^◌, ◌≤◌, ◌<◌, length, get_or, nat_abs};
-ghost use Rattle.paper.specs.Answers.{refused, said};
+ghost use Rattle.std.specs.Prelude.{◌≡◌, [], ◌++◌, ℕ, ◌+◌, ◌*◌, ◌^◌, ◌≤◌, ◌<◌, length, get_or, nat_abs, Err};
+ghost use Rattle.paper.specs.Answers.{number_of, said};
 ghost use Rattle.paper.specs.Demands.{Touched, session_sides};
 ghost use Rattle.paper.specs.Fields.{bytes};
 ghost use Rattle.paper.specs.Listing.{decimal, figures_line, entity_line, plus_cell, cell_sums, listing, refusal_line};
@@ -11,11 +11,11 @@ ghost use Rattle.writing.specs.Laid.{laid};
 
 use crate::Listing;
 use desk::Session;
-use paper::answer::Answer;
+use paper::answer::Refusal;
 use paper::ledger::Cell;
-use paper::rules::Rules;
 
 // Two counts, with a blank between.
+#[tactic(auto, using(crate::proofs::Written::written))]
 fn counts(out: &mut [u8; Listing::ROOM], at: usize, sent: u64, received: u64) -> usize
     requires { HasRoom at 41 }
     ensures { (result ≡ at + length (decimal sent ++ bytes " " ++ decimal received))
@@ -27,6 +27,7 @@ fn counts(out: &mut [u8; Listing::ROOM], at: usize, sent: u64, received: u64) ->
 }
 
 // What stands in a line after its name.
+#[tactic(auto, using(crate::proofs::Written::written, crate::proofs::Written::regrouped, crate::proofs::Parts::figured), unfolding(paper::specs::Listing::figures_line))]
 fn figures(out: &mut [u8; Listing::ROOM], at: usize, c: Cell) -> usize
     requires position_bound { nat_abs c.position ≤ 4 * 10 ^ 18 }
     requires has_room { HasRoom at 64 }
@@ -35,12 +36,12 @@ fn figures(out: &mut [u8; Listing::ROOM], at: usize, c: Cell) -> usize
     let next = writing::text(out, at, b" ");
     let past_counts = counts(out, next, c.sent, c.received);
     let net = writing::text(out, past_counts, b" ");
-    let position = c.position;
-    let past_net = writing::signed(out, net, position);
+    let past_net = writing::signed(out, net, c.position);
     writing::text(out, past_net, b"\n")
 }
 
 // A line, where the entity sent or received.
+#[tactic(auto, using(crate::proofs::Written::written, crate::proofs::Parts::lined))]
 fn entity(out: &mut [u8; Listing::ROOM], at: usize, e: u64, c: Cell) -> usize
     requires e_bound { e < 1000 }
     requires position_bound { nat_abs c.position ≤ 4 * 10 ^ 18 }
@@ -68,10 +69,10 @@ fn plus(c: Cell, d: Cell) -> Cell
 }
 
 // The heading, the entities in ascending order, last the sums. Hands back how many bytes these are.
-pub fn write(cells: [Cell; Rules::ROSTER], out: &mut [u8; Listing::ROOM]) -> usize
-    requires by_index { (e : ℕ) → Touched session_sides (get_or cells e zero_cell) }
-    requires by_index_2 { (n : ℕ) → n ≤ 499 → Touched session_sides (cell_sums n cells) }
-    ensures { Written (listing cells) result out.old out.new }
+pub fn write(cells: &[Cell; Session::ROSTER], out: &mut [u8; Listing::ROOM]) -> usize
+    requires by_index { (e : ℕ) → Touched session_sides (get_or cells.now e zero_cell) }
+    requires by_index_2 { (n : ℕ) → n ≤ 499 → Touched session_sides (cell_sums n cells.now) }
+    ensures { Written (listing cells.now) result out.old out.new }
 {
     let mut at = writing::text(out, 0, b"ENTITY SENT RECEIVED NET\n");
     let mut sums = Cell::ZERO;
@@ -85,34 +86,38 @@ pub fn write(cells: [Cell; Rules::ROSTER], out: &mut [u8; Listing::ROOM]) -> usi
 }
 
 // A refusal in its words.
-fn refused(out: &mut [u8], at: usize, number: u64, place: u64) -> usize
+#[tactic(auto, using(crate::proofs::Written::written), unfolding(crate::specs::Answers::answer_words))]
+fn refused(out: &mut [u8], at: usize, refusal: Refusal) -> usize
     requires { at + 52 ≤ length out.old }
-    ensures { (result ≡ at + length (answer_words (refused number place)))
-        × (out.new ≡ laid at (answer_words (refused number place)) out.old) }
+    ensures { (result ≡ at + length (answer_words (said (Err refusal))))
+        × (out.new ≡ laid at (answer_words (said (Err refusal))) out.old) }
 {
     let word = writing::text(out, at, b"REFUSED ");
-    let past_number = writing::number(out, word, number);
+    let past_number = writing::number(out, word, refusal.fault.number());
     let between = writing::text(out, past_number, b" AT ");
-    writing::number(out, between, place)
+    writing::number(out, between, refusal.place as u64)
 }
 
 // The line that stands in place of a listing.
-pub fn refusal(out: &mut [u8], at: usize, number: u64, place: u64) -> usize
+#[tactic(auto, using(crate::proofs::Written::written), unfolding(paper::specs::Listing::refusal_line, crate::specs::Answers::answer_words))]
+pub fn refusal(out: &mut [u8], at: usize, refusal: Refusal) -> usize
     requires { at + 53 ≤ length out.old }
-    ensures { (result ≡ at + length (refusal_line number place)) × (out.new ≡ laid at (refusal_line number place) out.old) }
+    ensures { (result ≡ at + length (refusal_line (number_of refusal.fault) refusal.place))
+        × (out.new ≡ laid at (refusal_line (number_of refusal.fault) refusal.place) out.old) }
 {
-    let past_words = refused(out, at, number, place);
+    let past_words = refused(out, at, refusal);
     writing::text(out, past_words, b"\n")
 }
 
 // An answer in its words.
-pub fn answer(out: &mut [u8], at: usize, answer: Answer) -> usize
+#[tactic(auto, using(crate::proofs::Written::written), unfolding(crate::specs::Answers::answer_words))]
+pub fn answer(out: &mut [u8], at: usize, answer: Result<(), Refusal>) -> usize
     requires { at + 52 ≤ length out.old }
     ensures { (result ≡ at + length (answer_words (said answer)))
         × (out.new ≡ laid at (answer_words (said answer)) out.old) }
 {
     match answer {
-        Answer::Accepted => writing::text(out, at, b"ACCEPTED"),
-        Answer::Refused(fault, place) => refused(out, at, fault.number(), place as u64),
+        Ok(()) => writing::text(out, at, b"ACCEPTED"),
+        Err(refusal) => refused(out, at, refusal),
     }
 }

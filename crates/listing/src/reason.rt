@@ -6,9 +6,9 @@ ghost use Rattle.listing.specs.Reasons.{reason_line, reason_at};
 use crate::Listing;
 use characters::text;
 use field::place::record_at;
-use paper::answer::Answer;
 
 // The place of its record, R and its number, and the text, as they stand.
+#[tactic(auto, using(crate::proofs::Written::written), unfolding(crate::specs::Reasons::reason_line))]
 fn written(place: usize, motive: &[u8], text: &[u8], out: &mut [u8; Listing::REASON]) -> usize
     requires motive_len { length motive.now ≡ 3 }
     requires text_len_bound { length text.now ≤ 44 }
@@ -23,6 +23,7 @@ fn written(place: usize, motive: &[u8], text: &[u8], out: &mut [u8; Listing::REA
 }
 
 // Of the record at a place; nothing where it is no rejection's additional record.
+#[tactic(auto, using(paper::proofs::Chained::chained, crate::proofs::Reasons::text_most, crate::proofs::Written::written, std::proofs::lemmas::Bool::Decides::nat_tests), unfolding(crate::specs::Reasons::reason_at, paper::specs::Receiving::shown_if, paper::specs::Receiving::explains_at))]
 pub fn line<'a>(
     file: &'a [u8],
     motives: &'a [u8],
@@ -32,8 +33,7 @@ pub fn line<'a>(
     requires { length file.now ≤ 940000 }
     ensures { Written (reason_at file.now motives.now place) result out.old out.new }
 {
-    let shown = reasons::find(file, place);
-    let Answer::Accepted = shown.answer() else {
+    let Ok(shown) = reasons::find(file, place) else {
         return 0;
     };
     let motive = text::part(record_at(file, place), 4, 6);

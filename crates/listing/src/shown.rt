@@ -4,6 +4,7 @@ ghost use Rattle.listing.specs.Answers.{shown_byte, shown};
 ghost use Rattle.writing.specs.Laid.{laid};
 
 // A control byte would move what is read, or hide it.
+#[tactic(auto, using(std::proofs::lemmas::Bool::Decides::nat_tests), unfolding(crate::specs::Answers::shown_byte))]
 fn byte(b: u8) -> u8
     ensures { result ≡ shown_byte b }
 {

@@ -1,9 +1,6 @@
 use Rattle.std.proofs.Common.{sym, ◌∙◌}
-use Rattle.listing.proofs.Taking.{no_currency, in_dollars, in_pesos}
+use Rattle.listing.proofs.Taking.{in_dollars, in_pesos}
 use Rattle.listing.proofs.input.currency.Goals as goal
-
-pub returns-then-file-lt-RECORD : goal.returns-then-file-lt-RECORD
-returns-then-file-lt-RECORD c = no_currency c.args.file.now c.if-file-lt-RECORD.true
 
 pub returns-then-of_currency : goal.returns-then-of_currency
 returns-then-of_currency c =

@@ -27,19 +27,19 @@ pub plus-sums-requires : goal.plus-sums-requires
 plus-sums-requires c =
     let i = c.loop-n.invariant in
     let e : c.loop-n.n ≡ i.passed + 1 = i.next in
-    rw (i.summed, e, ← sums_next i.passed c.args.cells) (c.requires.by_index_2 (i.passed + 1) (omega arith))
+    rw (i.summed, e, ← sums_next i.passed c.args.cells.now) (c.requires.by_index_2 (i.passed + 1) (omega arith))
 
 pub loop-n-preserved : goal.loop-n-preserved
 loop-n-preserved c =
     let i = c.loop-n.invariant in
     let e = i.passed + 1 in
-    let d = get_or c.args.cells e zero_cell in
+    let d = get_or c.args.cells.now e zero_cell in
     let m = entity_most e d (omega (arith, i.next)) (omega (arith, (c.requires.by_index e).position)) in
     record {
       passed = e;
       next = omega (arith, i.next);
       short = omega (arith, (rw i.next at c.entity-at.ensures).0, m, i.short);
-      summed = c.plus-sums.ensures ∙ rw (i.summed, i.next) (sym (sums_next i.passed c.args.cells));
+      summed = c.plus-sums.ensures ∙ rw (i.summed, i.next) (sym (sums_next i.passed c.args.cells.now));
       lines = rw lines_next (on i.lines (entity_line e d) (rw i.next at c.entity-at.ensures));
     }
 
@@ -50,7 +50,7 @@ figures-requires c =
 
 pub returns : goal.returns
 returns c =
-    let cells = c.args.cells in
+    let cells = c.args.cells.now in
     let t = c.text-at in
     let i = c.loop-n.invariant in
     let all : i.passed ≡ 499 = omega (arith, i.next) in
