@@ -129,7 +129,10 @@ fn export_constants(constants: &Constants) -> Constants {
     let answers = file("crates/paper/src/answer.rt");
     let refusals = answers.lines().filter_map(|line| {
         let (fault, number) = line.trim().strip_suffix(',')?.split_once(" = ")?;
-        Some((format!("REFUSED_{}", fault.to_uppercase()), number.to_string()))
+        Some((
+            format!("REFUSED_{}", fault.to_uppercase()),
+            number.to_string(),
+        ))
     });
     shared.into_iter().chain(figures).chain(refusals).collect()
 }
