@@ -4,7 +4,7 @@ use mathlib.Core.Bool.{Bool, true, false}
 use mathlib.Core.List.{List, ◌∷◌}
 use mathlib.Core.Path.{◌≡◌, refl, sym, ap, ◌∙◌}
 use native.Mathlib.Omega.{arith}
-use borrow.Rule.Slice.PartMut.{mid_of, put_mid, mid_len, same_len_mid}
+use borrow.Rule.Slice.PartMut.{mid_of, put_mid, mid_len}
 use lib.ListN.{length, take, drop}
 use lib.Seq.{length-take-le}
 use Rattle.paper.specs.declared.record.Tally.{Tally}
@@ -89,12 +89,6 @@ module _ {tray before later : List ℕ} {first n : Numbering} {i : ℕ} {t : Tal
     unfolding rs r number
     here = rw c.numbering (numbered_at first (bodies tray) i (body_at tray i) (bodies_at tray i l) (kinds_of tray i (omega (arith, l)) asked.sound))
 
-    pub on_tray_lem : i * 96 + 96 ≤ length tray
-    on_tray_lem = omega (arith, l)
-
-    pub falls : length tray / 96 - (i + 1) < length tray / 96 - i
-    falls = omega (arith, l)
-
     pub room_for : i * 94 + 94 ≤ length later
     unfolding rs
     room_for = room_left sized c.copied here (own_same ∙ sym a ∙ h) asked.room
@@ -116,14 +110,6 @@ module _ {tray before later : List ℕ} {first n : Numbering} {i : ℕ} {t : Tal
       read_back : mid_of (i * 94) (i * 94 + 94 - i * 94) new ≡ part
       unfolding new
       read_back = part_back (i * 94) (i * 94 + 94) part later (omega (arith, room_for)) (omega (arith, ap length under, length_numbered number r (omega (arith, long))))
-
-      -- it is there to be counted
-      pub part_there : i * 94 + 94 ≤ length (put_mid (i * 94) (i * 94 + 94 - i * 94) later part)
-      part_there = omega (arith, room_for, same_len_mid (i * 94) (i * 94 + 94 - i * 94) later part (ap length under ∙ length_numbered number r (omega (arith, long)) ∙ sym room_long))
-
-      pub part_long : length (mid_of (i * 94) (i * 94 + 94 - i * 94) (put_mid (i * 94) (i * 94 + 94 - i * 94) later part)) ≡ 94
-      unfolding new
-      part_long = ap length read_back ∙ ap length under ∙ length_numbered number r (omega (arith, long))
 
       pub one_numbered : {u : Tally} → let new = put_mid (i * 94) (i * 94 + 94 - i * 94) later part in
           u ≡ with_record (kind_of (mid_of (i * 94) (i * 94 + 94 - i * 94) new)) t (mid_of (i * 94) (i * 94 + 94 - i * 94) new) → Numbered tray first before (i + 1) m u new

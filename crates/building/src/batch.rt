@@ -2,13 +2,14 @@
 ghost use Rattle.std.specs.Prelude.{◌≡◌, ◌+◌, ◌^◌, ◌≤◌, length, take, drop};
 ghost use Rattle.paper.specs.declared.record.Kind.TheVariants.{BatchHeader};
 ghost use Rattle.paper.specs.Kinds.{kind_of};
-ghost use Rattle.batches.specs.Blocks.{own_at, own_of, block, Batched};
+ghost use Rattle.batches.specs.Blocks.{own_of, block, Batched};
 ghost use Rattle.tray.specs.Trays.{body_at, bodies};
 ghost use Rattle.building.specs.Numbering.{after, through, numbered_from, ToNumber};
 
 use crate::numbering::Numbering;
 use batches::records;
 use controls::tally;
+use field::place;
 use field::place::Record;
 use paper::record::Tally;
 use tray::Tray;
@@ -21,16 +22,6 @@ pub struct Run {
     pub numbering: Numbering,
 }
 
-// Whether there is a record at this place that opens no batch.
-fn own_at(tray: &[u8], place: usize) -> bool
-    ensures { result ≡ own_at (drop place (bodies tray.now)) }
-{
-    if place < tray.len() / Tray::RECORD {
-        return !batches::opens(tray::body_at(tray, place));
-    }
-    false
-}
-
 // The records up to the next batch header, numbered, one after the other.
 pub fn own(dst: &mut [u8], tray: &[u8], before: Numbering) -> Run
     requires { ToNumber tray.now (10 ^ 10) before dst.old (length (own_of (numbered_from before (bodies tray.now)))) }
@@ -40,16 +31,23 @@ pub fn own(dst: &mut [u8], tray: &[u8], before: Numbering) -> Run
 {
     let mut numbering = before;
     let mut tally = tally::NONE;
-    let mut place: usize = 0;
-    while own_at(tray, place) {
-        let at = place * Record::LENGTH;
+    let all = tray.len() / Tray::RECORD;
+    for records in 0..all {
+        let body = tray::body_at(tray, records);
+        if batches::opens(body) {
+            return Run {
+                records,
+                tally,
+                numbering,
+            };
+        }
+        let at = records * Record::LENGTH;
         let end = at + Record::LENGTH;
-        numbering = numbering.write(&mut dst[at..end], tray::body_at(tray, place));
-        tally = batches::count(tally, &dst[at..end]);
-        place += 1;
+        numbering = numbering.write(&mut dst[at..end], body);
+        tally = batches::count(tally, place::whole(&dst[at..end]));
     }
     Run {
-        records: place,
+        records: all,
         tally,
         numbering,
     }

@@ -27,7 +27,7 @@ fn unless_too_long(records: usize) -> Result<(), Refusal>
 }
 
 // 207, 201, then 206, before anything is written.
-#[tactic(auto, using(paper::proofs::Chained::chained, std::proofs::lemmas::Bool::Decides::nat_tests))]
+#[tactic(auto, using(paper::proofs::Chained::chained, std::proofs::lemmas::Bool::Decides::nat_tests, crate::proofs::Answering::answering))]
 pub fn build(header: &[u8], tray: &[u8], out: &mut [u8]) -> Result<usize, Refusal>
     ensures { told result out.new
         ≡ written (buildable header.now tray.now out.old) (build header.now tray.now) out.old }

@@ -22,6 +22,7 @@ impl Numbering {
     };
 
     // One record further.
+    #[tactic(auto, unfolding(crate::specs::Numbering::after, paper::specs::Trays::batches_after, paper::specs::Trays::individuals_after))]
     fn after(self, body: &[u8]) -> Numbering
         requires { (1 ≤ length body.now) × Few (10 ^ 18) self }
         ensures { result ≡ after (kind_of body.now) self }
@@ -29,17 +30,18 @@ impl Numbering {
         match kind::kind(body) {
             Kind::BatchHeader => Numbering {
                 batches: self.batches + 1,
-                individuals: self.individuals,
+                ..self
             },
             Kind::Individual => Numbering {
-                batches: self.batches,
                 individuals: self.individuals + 1,
+                ..self
             },
             _ => self,
         }
     }
 
     // The number of the record that was counted last.
+    #[tactic(auto, unfolding(crate::specs::Numbering::last_number))]
     fn number(self, body: &[u8]) -> u64
         requires { 1 ≤ length body.now }
         ensures { result ≡ last_number (kind_of body.now) self }

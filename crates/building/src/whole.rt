@@ -22,6 +22,7 @@ pub fn write(out: &mut [u8], header: &[u8], tray: &[u8])
     let mut at = (loose.records + 1) * Record::LENGTH;
     let mut numbering = loose.numbering;
     let mut closed = tally::NONE;
+    // a batch has no size of its own by which a `for` could step
     while from < tray.len() {
         let batch = batch::write(&mut out[at..], &tray[from..], numbering);
         from += (batch.records + 1) * Tray::RECORD;

@@ -8,10 +8,9 @@ use crate::world::World;
 use crate::{member, say, share, world};
 use desk::{Reply, Session};
 use files::ending::Ended;
-use files::taking::Filled;
 use files::{args, taking};
-use handing::modes::Mode;
-use handing::{Handed, modes};
+use handing::{Unwritten, modes};
+use intake::held::Size;
 use intake::long::Took;
 use intake::roster::Roll;
 use intake::{held, long};
@@ -22,20 +21,19 @@ use typed::call::{Job, Word};
 use typed::words;
 
 // The mode of a file to be written: that of OUT is the first, or that of FOLDER/402.txt is at 402.
-fn mode(rt: &impl World, i: usize) -> Mode {
+fn mode(rt: &impl World, i: usize) -> Option<u32> {
     let mut word = io::buffer();
-    let length = args::word(rt, Word::MODES, &mut word);
-    modes::of(&word[..length], i)
+    modes::of(args::word(rt, Word::MODES, &mut word), i)
 }
 
 // The bytes under that path, in a file of mode i.
-pub(crate) fn put(rt: &impl World, path: &[u8], i: usize, bytes: &[u8]) -> Handed
+pub(crate) fn put(rt: &impl World, path: &[u8], i: usize, bytes: &[u8]) -> Result<usize, Unwritten>
     requires { length path.now ≤ 4096 }
     ensures { AllOf bytes.now result }
 {
     let mut name = io::buffer();
-    let length = args::word(rt, Word::PART, &mut name);
-    handing::put(rt, path, &name[..length], mode(rt, i), bytes)
+    let name = args::word(rt, Word::PART, &mut name);
+    handing::put(rt, path, name, mode(rt, i), bytes)
 }
 
 // Acceptance is said once the bytes are where they belong.
@@ -46,21 +44,18 @@ pub(crate) fn hand_over(rt: &impl World, word: usize, output: Output, out: &[u8]
         return say::output(rt, output);
     };
     let mut path = io::buffer();
-    let length = taking::name(rt, word, &mut path);
-    if length == 0 {
+    let Ok(path) = taking::name(rt, word, &mut path) else {
         return Ended::Undone;
-    }
-    let handed = put(rt, &path[..length], 0, &out[..n]);
-    let Handed::Whole(bytes) = handed else {
+    };
+    let Ok(bytes) = put(rt, path, 0, &out[..n]) else {
         return Ended::Undone;
     };
     say::output(rt, Output::Accepted(bytes))
 }
 
 fn read(rt: &impl World, session: Session) -> Ended {
-    let mut input = held::input();
-    let taken = taking::file(rt, Word::FIRST, &mut input);
-    let Filled::Bytes(_, n) = taken else {
+    let mut input: [u8; Size::INPUT] = held::zeros();
+    let Ok((_, n)) = taking::file(rt, Word::FIRST, &mut input) else {
         return Ended::Undone;
     };
     say::answer(rt, session.read(&input[..n]))
@@ -79,23 +74,21 @@ fn present_one(rt: &impl World, session: Session, word: usize) -> Turn
     ensures { Reachable result.session }
 {
     let mut path = io::buffer();
-    let length = taking::name(rt, word, &mut path);
-    if length == 0 {
+    let Ok(path) = taking::name(rt, word, &mut path) else {
         return Turn {
             ended: Ended::Undone,
             session,
         };
-    }
-    present_named(rt, session, &path[..length])
+    };
+    present_named(rt, session, path)
 }
 
 fn present_named(rt: &impl World, session: Session, path: &[u8]) -> Turn
     requires { Reachable session }
     ensures { Reachable result.session }
 {
-    let mut input = held::input();
-    let taken = taking::file_named(rt, path, &mut input);
-    let Filled::Bytes(_, n) = taken else {
+    let mut input: [u8; Size::INPUT] = held::zeros();
+    let Ok((_, n)) = taking::file_named(rt, path, &mut input) else {
         return Turn {
             ended: Ended::Undone,
             session,
@@ -145,28 +138,25 @@ pub(crate) fn entity(rt: &impl World) -> u64
     ensures { result < 5000 }
 {
     let mut word = io::buffer();
-    let length = args::word(rt, Word::FIRST, &mut word);
-    words::entity(&word[..length])
+    words::entity(args::word(rt, Word::FIRST, &mut word))
 }
 
 fn extract(rt: &impl World, session: Session) -> Ended {
-    let mut input = held::input();
-    let taken = taking::file(rt, Word::SECOND, &mut input);
-    let Filled::Bytes(_, n) = taken else {
+    let mut input: [u8; Size::INPUT] = held::zeros();
+    let Ok((_, n)) = taking::file(rt, Word::SECOND, &mut input) else {
         return Ended::Undone;
     };
-    let mut out = held::output();
+    let mut out: [u8; Size::OUTPUT] = held::zeros();
     let output = session.extract(entity(rt), &input[..n], &mut out);
     hand_over(rt, Word::THIRD, output, &out)
 }
 
 fn strip(rt: &impl World, session: Session) -> Ended {
-    let mut input = held::input();
-    let taken = taking::file(rt, Word::FIRST, &mut input);
-    let Filled::Bytes(_, n) = taken else {
+    let mut input: [u8; Size::INPUT] = held::zeros();
+    let Ok((_, n)) = taking::file(rt, Word::FIRST, &mut input) else {
         return Ended::Undone;
     };
-    let mut out = held::output();
+    let mut out: [u8; Size::OUTPUT] = held::zeros();
     let output = session.strip(&input[..n], &mut out);
     hand_over(rt, Word::SECOND, output, &out)
 }
@@ -174,8 +164,7 @@ fn strip(rt: &impl World, session: Session) -> Ended {
 fn build(rt: &impl World, session: Session) -> Ended {
     // one byte more than a header body shows that there was more
     let mut header = [0u8; Session::RECORD + 1];
-    let taken = taking::file(rt, Word::FIRST, &mut header);
-    let Filled::Bytes(_, n) = taken else {
+    let Ok((_, n)) = taking::file(rt, Word::FIRST, &mut header) else {
         return Ended::Undone;
     };
     build_from(rt, session, &header[..n])
@@ -183,21 +172,22 @@ fn build(rt: &impl World, session: Session) -> Ended {
 
 fn build_from(rt: &impl World, session: Session, header: &[u8]) -> Ended {
     let mut path = io::buffer();
-    let length = taking::name(rt, Word::SECOND, &mut path);
-    if length == 0 {
+    let Ok(path) = taking::name(rt, Word::SECOND, &mut path) else {
         return Ended::Undone;
-    }
-    build_of(rt, session, header, &path[..length])
+    };
+    build_of(rt, session, header, path)
 }
 
 // From the tray of that name.
 fn build_of(rt: &impl World, session: Session, header: &[u8], path: &[u8]) -> Ended {
-    let mut input = held::long();
-    let took = long::take(rt, Form::Tray, path, header, &mut input);
+    let mut input = held::zeros();
+    let Ok(took) = long::take(rt, Form::Tray, path, header, &mut input) else {
+        return Ended::Undone;
+    };
     let Took::Whole(n, _) = took else {
         return say_long(rt, took);
     };
-    let mut out = held::output();
+    let mut out: [u8; Size::OUTPUT] = held::zeros();
     let output = session.build(header, &input[..n], &mut out);
     hand_over(rt, Word::THIRD, output, &out)
 }

@@ -7,7 +7,6 @@ use desk::Session;
 use files::ending::Ended;
 use files::{args, ending, taking};
 use intake::roster;
-use intake::roster::Listed;
 use paper::rules::Currency;
 use typed::call::{Asked, Job, Word};
 use typed::{call, words};
@@ -26,21 +25,19 @@ const STDERR: i32 = 2;
 // What the words of this call ask for.
 fn called(rt: &impl World) -> Asked {
     let mut job = io::buffer();
-    let length = args::word(rt, Word::JOB, &mut job);
+    let job = args::word(rt, Word::JOB, &mut job);
     let mut next = io::buffer();
-    let span = args::word(rt, Word::COMPANY_CURRENCY, &mut next);
+    let next = args::word(rt, Word::COMPANY_CURRENCY, &mut next);
     let mut currency = io::buffer();
-    let width = args::word(rt, Word::CURRENCY, &mut currency);
-    let count = world::words(rt);
-    call::asked_for(&job[..length], &next[..span], &currency[..width], count)
+    let currency = args::word(rt, Word::CURRENCY, &mut currency);
+    call::asked_for(job, next, currency, world::words(rt))
 }
 
 fn date(rt: &impl World) -> u64
     ensures { result < 10 ^ 6 }
 {
     let mut word = io::buffer();
-    let length = args::word(rt, Word::DATE, &mut word);
-    words::date(&word[..length])
+    words::date(args::word(rt, Word::DATE, &mut word))
 }
 
 fn usage() {
@@ -65,22 +62,20 @@ fn usage() {
 // The job in the session that this roster opens.
 fn open_for(rt: &impl World, job: Job, currency: Currency, path: &[u8]) -> Ended {
     let mut entities = [0u64; Session::ROSTER];
-    let roll = roster::gather(rt, path, &mut entities);
-    let Listed::Entities(count, _) = roll.listed else {
+    let Ok(roll) = roster::gather(rt, path, &mut entities) else {
         return Ended::Undone;
     };
-    let opened = Session::open(date(rt), currency, &entities[..count]);
+    let opened = Session::open(date(rt), currency, &entities[..roll.count]);
     jobs::run(rt, job, opened, roll)
 }
 
 // A job in a session of a currency.
 fn serve_in(rt: &impl World, job: Job, currency: Currency) -> Ended {
     let mut path = io::buffer();
-    let length = taking::name(rt, Word::ROSTER, &mut path);
-    if length == 0 {
+    let Ok(path) = taking::name(rt, Word::ROSTER, &mut path) else {
         return Ended::Undone;
-    }
-    open_for(rt, job, currency, &path[..length])
+    };
+    open_for(rt, job, currency, path)
 }
 
 // What is asked for, done.

@@ -4,7 +4,7 @@ use crate::world::World;
 use desk::Session;
 use files::ending::Ended;
 use files::taking;
-use files::taking::Filled;
+use intake::held::Size;
 use intake::long::Took;
 use intake::{held, long};
 use looking::Form;
@@ -14,8 +14,7 @@ use typed::call::Word;
 pub(crate) fn make(rt: &impl World, currency: Currency) -> Ended {
     // one byte more than an LO body shows that there was more
     let mut lo = [0u8; Session::RECORD + 1];
-    let taken = taking::file(rt, Word::LO, &mut lo);
-    let Filled::Bytes(_, n) = taken else {
+    let Ok((_, n)) = taking::file(rt, Word::LO, &mut lo) else {
         return Ended::Undone;
     };
     make_under(rt, currency, &lo[..n])
@@ -23,21 +22,22 @@ pub(crate) fn make(rt: &impl World, currency: Currency) -> Ended {
 
 fn make_under(rt: &impl World, currency: Currency, lo: &[u8]) -> Ended {
     let mut path = io::buffer();
-    let length = taking::name(rt, Word::COMPANY, &mut path);
-    if length == 0 {
+    let Ok(path) = taking::name(rt, Word::COMPANY, &mut path) else {
         return Ended::Undone;
-    }
-    make_of(rt, currency, lo, &path[..length])
+    };
+    make_of(rt, currency, lo, path)
 }
 
 // From the company's file of that name.
 fn make_of(rt: &impl World, currency: Currency, lo: &[u8], path: &[u8]) -> Ended {
-    let mut input = held::long();
-    let took = long::take(rt, Form::Company(currency), path, lo, &mut input);
+    let mut input = held::zeros();
+    let Ok(took) = long::take(rt, Form::Company(currency), path, lo, &mut input) else {
+        return Ended::Undone;
+    };
     let Took::Whole(n, _) = took else {
         return jobs::say_long(rt, took);
     };
-    let mut out = held::output();
+    let mut out: [u8; Size::OUTPUT] = held::zeros();
     let output = company::tray(currency, lo, &input[..n], &mut out);
     jobs::hand_over(rt, Word::OUT, output, &out)
 }

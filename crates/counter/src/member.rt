@@ -5,18 +5,17 @@ use crate::world::World;
 use crate::{jobs, say};
 use desk::Session;
 use files::ending::Ended;
-use files::taking::Filled;
 use files::{args, taking};
 use intake::held;
+use intake::held::Size;
 use paper::answer::Answer;
 use reasons::Shown;
 use typed::call::Word;
 use typed::words;
 
 pub(crate) fn receive(rt: &impl World, session: Session) -> Ended {
-    let mut input = held::input();
-    let taken = taking::file(rt, Word::SECOND, &mut input);
-    let Filled::Bytes(_, n) = taken else {
+    let mut input: [u8; Size::INPUT] = held::zeros();
+    let Ok((_, n)) = taking::file(rt, Word::SECOND, &mut input) else {
         return Ended::Undone;
     };
     say::answer(rt, session.receive(jobs::entity(rt), &input[..n]))
@@ -32,8 +31,7 @@ enum Wanted {
 // The place of the record asked for.
 fn place(rt: &impl World) -> usize {
     let mut word = io::buffer();
-    let length = args::word(rt, Word::FOURTH, &mut word);
-    words::place(&word[..length])
+    words::place(args::word(rt, Word::FOURTH, &mut word))
 }
 
 // The reason in the record at a place.
@@ -89,8 +87,7 @@ fn show_every<'a>(rt: &impl World, session: Session, file: &'a [u8], motives: &'
 fn show_from(rt: &impl World, session: Session, wanted: Wanted, file: &[u8]) -> Ended {
     // one byte more than a motive list shows that there was more
     let mut motives = [0u8; Shown::MOTIVES + 1];
-    let taken = taking::file(rt, Word::THIRD, &mut motives);
-    let Filled::Bytes(_, n) = taken else {
+    let Ok((_, n)) = taking::file(rt, Word::THIRD, &mut motives) else {
         return Ended::Undone;
     };
     match wanted {
@@ -100,9 +97,8 @@ fn show_from(rt: &impl World, session: Session, wanted: Wanted, file: &[u8]) -> 
 }
 
 fn show(rt: &impl World, session: Session, wanted: Wanted) -> Ended {
-    let mut input = held::input();
-    let taken = taking::file(rt, Word::SECOND, &mut input);
-    let Filled::Bytes(_, n) = taken else {
+    let mut input: [u8; Size::INPUT] = held::zeros();
+    let Ok((_, n)) = taking::file(rt, Word::SECOND, &mut input) else {
         return Ended::Undone;
     };
     show_from(rt, session, wanted, &input[..n])

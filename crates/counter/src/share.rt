@@ -5,10 +5,9 @@ use crate::world::World;
 use crate::{jobs, say};
 use desk::Session;
 use files::ending::Ended;
-use files::taking::Filled;
 use files::{saying, taking};
-use handing::Handed;
 use intake::held;
+use intake::held::Size;
 use paper::answer::Answer;
 use sharing::Part;
 use typed::call::Word;
@@ -37,8 +36,7 @@ fn hand_out(rt: &impl World, folder: &[u8], entity: u64, bytes: &[u8]) -> Ended
 {
     let mut path = io::buffer();
     let length = path_in(folder, entity, &mut path);
-    let handed = jobs::put(rt, &path[..length], entity as usize, bytes);
-    let Handed::Whole(written) = handed else {
+    let Ok(written) = jobs::put(rt, &path[..length], entity as usize, bytes) else {
         return Ended::Undone;
     };
     say::part(rt, entity, written)
@@ -88,7 +86,7 @@ fn share_each(
 fn share_out(rt: &impl World, session: Session, file: &[u8], folder: &[u8]) -> Ended
     requires { length folder.now + 32 ≤ 4096 }
 {
-    let mut out = held::output();
+    let mut out: [u8; Size::OUTPUT] = held::zeros();
     share_each(rt, session, file, folder, &mut out)
 }
 
@@ -96,9 +94,8 @@ fn share_out(rt: &impl World, session: Session, file: &[u8], folder: &[u8]) -> E
 fn share_to(rt: &impl World, session: Session, folder: &[u8]) -> Ended
     requires { length folder.now + 32 ≤ 4096 }
 {
-    let mut input = held::input();
-    let taken = taking::file(rt, Word::FIRST, &mut input);
-    let Filled::Bytes(_, n) = taken else {
+    let mut input: [u8; Size::INPUT] = held::zeros();
+    let Ok((_, n)) = taking::file(rt, Word::FIRST, &mut input) else {
         return Ended::Undone;
     };
     let ended = say::answer(rt, session.read(&input[..n]));
@@ -110,13 +107,12 @@ fn share_to(rt: &impl World, session: Session, folder: &[u8]) -> Ended
 
 pub(crate) fn share(rt: &impl World, session: Session) -> Ended {
     let mut folder = io::buffer();
-    let length = taking::name(rt, Word::SECOND, &mut folder);
-    if length == 0 {
+    let Ok(folder) = taking::name(rt, Word::SECOND, &mut folder) else {
+        return Ended::Undone;
+    };
+    if folder.len() > PATH_MAX - NAME {
+        saying::wrong(folder, b"the name of a folder is too long");
         return Ended::Undone;
     }
-    if length > PATH_MAX - NAME {
-        saying::wrong(&folder[..length], b"the name of a folder is too long");
-        return Ended::Undone;
-    }
-    share_to(rt, session, &folder[..length])
+    share_to(rt, session, folder)
 }

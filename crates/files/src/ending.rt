@@ -1,25 +1,32 @@
 // How a program ends. It has no exit status of its own: it tells its launcher on a descriptor.
-ghost use Rattle.std.specs.Prelude.{◌≤◌};
+ghost use Rattle.std.specs.Prelude.{◌≡◌, ◌≤◌};
+ghost use Rattle.files.specs.declared.ending.Stopped.TheVariants.{Undone};
 
 use crate::args;
+use crate::taking::Failure;
 use std::rt::Env;
 
-// Accepted; or something was refused; or it could not be done, and that was said.
-#[derive(Clone, Copy)]
-pub enum Ended {
-    Accepted,
+// Something was refused; or it could not be done, and that was said.
+#[derive(Clone, Copy, Debug, PartialEq, Eq)]
+pub enum Stopped {
     Refused,
     Undone,
 }
 
-impl Ended {
-    // What its launcher is told.
-    fn line(self) -> &'static [u8] {
-        match self {
-            Ended::Accepted => b"0\n",
-            Ended::Refused => b"1\n",
-            Ended::Undone => b"2\n",
-        }
+impl From<Failure> for Stopped {
+    ghost from_gives = { λ _ e. e ≡ Undone };
+
+    fn from(_failure: Failure) -> Stopped {
+        Stopped::Undone
+    }
+}
+
+// What its launcher is told.
+fn line(ended: Result<(), Stopped>) -> &'static [u8] {
+    match ended {
+        Ok(()) => b"0\n",
+        Err(Stopped::Refused) => b"1\n",
+        Err(Stopped::Undone) => b"2\n",
     }
 }
 
@@ -41,10 +48,10 @@ fn descriptor(word: &[u8]) -> u32
 }
 
 // The word names the descriptor. Without a launcher nobody listens, and nothing is lost.
-pub fn tell(words: &impl Env, word: usize, ended: Ended) {
+pub fn tell(words: &impl Env, word: usize, ended: Result<(), Stopped>) {
     let mut digits = io::buffer();
     let word = args::word(words, word, &mut digits);
     if !word.is_empty() {
-        io::write_all(descriptor(word) as i32, ended.line());
+        io::write_all(descriptor(word) as i32, line(ended));
     }
 }

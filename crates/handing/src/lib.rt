@@ -1,9 +1,11 @@
 // Where a job's bytes go. They are written beside OUT first and take its place whole, so that no failure leaves half a file under its name.
 #![tactic(auto)]
 
-ghost use Rattle.std.specs.Prelude.{◌+◌, ◌≤◌, length};
+ghost use Rattle.std.specs.Prelude.{◌≡◌, ◌+◌, ◌≤◌, length};
+ghost use Rattle.files.specs.declared.ending.Stopped.TheVariants.{Undone};
 ghost use Rattle.handing.specs.Handed.{AllOf};
 
+use files::ending::Stopped;
 use files::saying;
 use files::taking::text;
 use std::fs::{File, OpenOptions, Permissions};
@@ -23,6 +25,14 @@ const PART: usize = 2 * PATH_MAX;
 // The bytes do not stand under the name, and that was said.
 #[derive(Clone, Copy, Debug, PartialEq, Eq)]
 pub struct Unwritten;
+
+impl From<Unwritten> for Stopped {
+    ghost from_gives = { λ _ e. e ≡ Undone };
+
+    fn from(_unwritten: Unwritten) -> Stopped {
+        Stopped::Undone
+    }
+}
 
 // A call of the system failed on the path.
 fn failed(path: &[u8], error: &Error) -> Unwritten {

@@ -17,12 +17,11 @@ use Rattle.watch.specs.declared.Watch.{Watch}
 use Rattle.watch.specs.Watches.{watch_on}
 use Rattle.typed.specs.declared.roster.Roster.{Roster}
 use Rattle.typed.specs.declared.roster.Text.{Text}
-use Rattle.typed.specs.declared.roster.Which.TheVariants.{Word}
 use Rattle.typed.specs.declared.roster.Wrong.{Wrong}
 use Rattle.typed.specs.Rosters.{ended, words_from, no_word, wrong_among, wrong_typed, told_in, begun, closed, read_on, wrong_in}
 use Rattle.typed.specs.Texts.{roster_in, watch_in, text_begun, text_on}
 use Rattle.typed.proofs.Rosters.{pieces}
-use Rattle.typed.proofs.WrongWords.{wrong_typed_lem, which_inside}
+use Rattle.typed.proofs.WrongWords.{wrong_typed_lem}
 use Rattle.typed.proofs.WrongRosters.{refused_exactly}
 use Rattle.files.specs.declared.taking.Source.{Source}
 use Rattle.files.specs.Sources.{watch_of, JustOpened}
@@ -93,8 +92,3 @@ refused_read path source text r date currency d =
 pub wrong_all : told_in (wrong_of no_text) ≡ no_word
 unfolding text_begun read_on wrong_typed words_from ended wrong_among
 wrong_all = wrong_typed_lem [] (omega arith)
-
--- so many of its bytes are there
-pub wrong_inside : (text : Text) (wrong : Wrong) {place size : ℕ} → wrong ≡ wrong_of text → wrong.word ≡ Word place size → size ≤ 64
-unfolding wrong_in
-wrong_inside text wrong e w = which_inside _ _ (ap (λ (x : Wrong). x.word) (sym e) ∙ w)

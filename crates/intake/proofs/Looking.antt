@@ -4,15 +4,14 @@ use native.Mathlib.Nat.{zero-mod, add-mod}
 use native.Mathlib.Omega.{arith}
 use mathlib.Core.Bool.{true, false}
 use mathlib.Core.List.{List, [], ◌++◌}
-use mathlib.Core.Path.{◌≡◌, refl, sym, ap, ◌∙◌}
+use mathlib.Core.Path.{◌≡◌, refl, sym, ap, subst, ◌∙◌}
 use lib.ListN.{length, take, length-append}
 use lib.Seq.{length-take-le}
-use Rattle.paper.specs.declared.answer.Answer.{Answer}
-use Rattle.paper.specs.Answers.{said}
+use Rattle.std.specs.Prelude.{Option, Some, None, IsSome, Err}
+use Rattle.paper.specs.declared.answer.Refusal.{Refusal}
+use Rattle.paper.specs.Answers.{Answer, said}
 use Rattle.watch.specs.declared.Watch.{Watch}
 use Rattle.watch.specs.Watches.{place_of, watch_at, watch_on}
-use Rattle.tray.specs.declared.pieces.Known.{Known}
-use Rattle.tray.specs.declared.pieces.Known.TheVariants.{Finite, Endless}
 use Rattle.looking.specs.declared.Form.{Form}
 use Rattle.looking.specs.declared.Form.TheVariants.{Tray, Company}
 use Rattle.looking.specs.declared.Look.{Look}
@@ -24,7 +23,7 @@ use Rattle.demands.proofs.LongTrays.{long_built}
 use Rattle.files.specs.declared.taking.Source.{Source}
 use Rattle.files.specs.Sources.{has_ended, watch_of, JustOpened}
 use Rattle.files.proofs.Parts.{handed_none, handed_on, same_name, full}
-use Rattle.intake.specs.Looking.{PieceLooked, LookedAt, LongSoFar, LongToEnd, WholeIn, AsDone, AnsweredLong}
+use Rattle.intake.specs.Looking.{PieceLooked, LookedAt, LongSoFar, LongToEnd, WholeIn, AsDone, RefusedLong}
 
 -- ---- by form
 
@@ -113,13 +112,13 @@ module _ {seen : Look} {before after : Source} {body buffer : List ℕ} {n : ℕ
 -- ---- what is told
 
 -- no source hands over more records than are looked at
-pub answers : (form : Form) (path body : List ℕ) (source : Source) (look : Look) (k : Known) → LongToEnd form path body source look → TellsOf (sought_in look) body k
-    → AnsweredLong form path body k source look
-answers form path body source look (Finite a) o t =
-    record {
-      to_end = o;
-      answer = a;
-      finite = refl;
-      as_done = as_said form body o.bytes a o.long (sought_told form body (sought_in look) o.bytes a o.looked.seen t);
-    }
-answers form path body source look Endless o t = absurd (omega (arith, sought_endless form body (sought_in look) o.bytes o.looked.seen t, o.below))
+pub answered : (form : Form) (path body : List ℕ) (source : Source) (look : Look) (known : Option Refusal) → LongToEnd form path body source look
+    → TellsOf (sought_in look) body known → IsSome known
+answered form path body source look (Some r) o t = refl
+answered form path body source look None o t = absurd (omega (arith, sought_endless form body (sought_in look) o.bytes o.looked.seen t, o.below))
+
+pub refuses : (form : Form) (path body : List ℕ) (source : Source) (look : Look) (known : Option Refusal) (r : Refusal) → LongToEnd form path body source look
+    → TellsOf (sought_in look) body known → known ≡ Some r → RefusedLong form path body r source look
+refuses form path body source look known r o t e =
+    let told : TellsOf (sought_in look) body (Some r) = subst (λ (x : Option Refusal). TellsOf (sought_in look) body x) e t in
+    record { to_end = o; as_done = as_said form body o.bytes (Err r) o.long (sought_told form body (sought_in look) o.bytes r o.looked.seen told) }

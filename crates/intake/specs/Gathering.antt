@@ -48,7 +48,7 @@ abbrev pub entities_of : Text → List ℕ
 entities_of text = entities_in (closed (roster_in text))
 
 -- its first word that is no entity's number
-abbrev pub wrong_of : Text → Wrong
+abbrev pub wrong_of : Text → Option Wrong
 wrong_of text = wrong_in (closed (roster_in text))
 
 -- ---- what is handed over

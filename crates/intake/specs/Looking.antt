@@ -1,13 +1,11 @@
 -- What is taken piece by piece, by its form. No contract can name what the system hands over; but a source and a look are watched at the same place, and nobody
 -- knows which, so that what was looked at is what was handed over, byte by byte.
-use Rattle.std.specs.Prelude.{ℕ, ◌%◌, ◌≤◌, ◌<◌, true, List, ◌≡◌, length, take, Result, MatchResult}
+use Rattle.std.specs.Prelude.{ℕ, ◌%◌, ◌≤◌, ◌<◌, true, List, ◌≡◌, length, take, Result, Err, MatchResult}
 use Rattle.io.specs.Counts.{IsPrefixLen}
-use Rattle.paper.specs.declared.answer.Answer.{Answer}
-use Rattle.paper.specs.Answers.{said}
+use Rattle.paper.specs.declared.answer.Refusal.{Refusal}
+use Rattle.paper.specs.Answers.{Answer, said}
 use Rattle.paper.specs.Buffers.{building}
 use Rattle.company.specs.Files.{company}
-use Rattle.tray.specs.declared.pieces.Known.{Known}
-use Rattle.tray.specs.declared.pieces.Known.TheVariants.{Finite}
 use Rattle.looking.specs.declared.Form.{Form}
 use Rattle.looking.specs.declared.Form.TheVariants.{Tray, Company}
 use Rattle.looking.specs.declared.Look.{Look}
@@ -73,17 +71,15 @@ abbrev pub AsDone : Form → List ℕ → List ℕ → Answer → Type 0
 AsDone Tray header tray answer = (s : Session) (before : List ℕ) → said answer ≡ (building (rules_of s) header tray before).answer
 AsDone (Company currency) lo file answer = (before : List ℕ) → length before ≤ 960000 → said answer ≡ (company currency lo file before).answer
 
--- it has an end, and there is an answer
-pub record AnsweredLong (form : Form) (path body : List ℕ) (known : Known) (source : Source) (look : Look) : Type 0 where
+-- it has an end, and the job refuses it so
+pub record RefusedLong (form : Form) (path body : List ℕ) (refusal : Refusal) (source : Source) (look : Look) : Type 0 where
   pub to_end : LongToEnd form path body source look
-  pub answer : Answer
-  pub finite : known ≡ Finite answer
-  pub as_done : AsDone form body to_end.bytes answer
+  pub as_done : AsDone form body to_end.bytes (Err refusal)
 
 -- all of it, or it is longer
 abbrev pub TakenUp : Form → List ℕ → List ℕ → List ℕ → Took → Type 0
 TakenUp form path body buffer (took.Whole n source) = WholeIn path buffer n source
-TakenUp form path body buffer (took.Long known source look) = AnsweredLong form path body known source look
+TakenUp form path body buffer (took.Long refusal source look) = RefusedLong form path body refusal source look
 
 -- of what stands under that name, or it could not be read
 abbrev pub Takes : Form → List ℕ → List ℕ → List ℕ → Result Took Failure → Type 0

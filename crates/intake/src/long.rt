@@ -1,20 +1,20 @@
-// What a job takes up, by its form: whole in a buffer; or longer than the job can take, looked at piece by piece, with the answer that the job gives.
+// What a job takes up, by its form: whole in a buffer; or longer than the job can take, looked at piece by piece, with the job's refusal.
 ghost use Rattle.files.specs.Sources.{JustOpened};
 ghost use Rattle.intake.specs.Looking.{LookedOn, LongSoFar, LookedThrough, Takes};
 
 use crate::held::Size;
 use files::taking::{Failure, Source};
 use looking::{Form, Look};
+use paper::answer::Refusal;
 use std::fs::File;
 use std::rt::Files;
-use tray::pieces::Known;
 
-// So many bytes are all of it; or it is longer, with what is told of it, always an answer, and all that was looked at. Each with its source after the last
-// piece, which is closed where this is let go.
+// So many bytes are all of it; or it is longer, with its refusal, and all that was looked at. Each with its source after the last piece, which is closed where
+// this is let go.
 #[derive(Drop)]
 pub enum Took {
     Whole(usize, Source),
-    Long(Known, Source, Look),
+    Long(Refusal, Source, Look),
 }
 
 // A piece: the source after it, how many bytes, and what is known with them.
@@ -33,6 +33,7 @@ fn look_on(
 }
 
 // To the last piece. Each full one is counted, so the loop ends by what the source may hand over. The form is there for the contract alone.
+// No one function with `roster::read_all`: what a look keeps, by form, body and whole records, takes a trait of more lines than this loop.
 fn look_through(
     form: Form,
     begun: Look,
@@ -72,7 +73,8 @@ fn take_from(
         return Ok(Took::Whole(n, after));
     }
     let (last, seen) = look_through(form, known, after, path, body, input)?;
-    Ok(Took::Long(seen.answer(body), last, seen))
+    // there is an answer: no source comes to more records than are looked at
+    Ok(Took::Long(seen.answer(body).unwrap(), last, seen))
 }
 
 // What stands under that name, its first piece into the buffer; the body is what the job is handed with it.

@@ -26,8 +26,8 @@ pub struct Roll {
 
 impl Roll {
     // The first word of the text that is no entity's number.
-    pub fn wrong(self) -> Wrong
-        ensures { result ≡ wrong_of self.text }
+    pub fn wrong(&self) -> Option<Wrong>
+        ensures { result ≡ wrong_of self.now.text }
     {
         self.text.roster().closed().wrong()
     }

@@ -2,7 +2,6 @@
 #![tactic(auto)]
 
 use files::ending::Ended;
-use files::taking::Taken;
 use files::{ending, saying, standard};
 use listing::Listing;
 use std::io::Error;
@@ -26,8 +25,8 @@ fn failed(what: &[u8], error: &Error) -> Ended {
 fn serve(rt: &(impl Input + Print)) -> Ended {
     let mut file = [0u8; PAST_LIMIT];
     let n = match standard::input(rt, &mut file) {
-        Taken::Bytes(n) => n,
-        Taken::Failed(error) => return failed(b"standard input", &error),
+        Ok(n) => n,
+        Err(error) => return failed(b"standard input", &error),
     };
     let mut out = [0u8; Listing::ROOM];
     let written = listing::positions(&file[..n], &mut out);

@@ -3,6 +3,7 @@ ghost use Rattle.std.specs.Prelude.{◌≡◌, false, ◌||◌, ℕ, ◌*◌, �
 ghost use Rattle.repeats.specs.Bits.{has_bit};
 
 // Whether the set holds n.
+#[tactic(auto, using(crate::proofs::Set::tested))]
 pub fn has(seen: &[u8], n: usize) -> bool
     requires { n < length seen.now * 8 }
     ensures { result ≡ has_bit seen.now n }
@@ -11,6 +12,7 @@ pub fn has(seen: &[u8], n: usize) -> bool
 }
 
 // n is put in, which was not there.
+#[tactic(auto, using(crate::proofs::Set::added_fits, crate::proofs::Set::added))]
 pub fn add(seen: &mut [u8], n: usize)
     requires { (n < length seen.old * 8) × (has_bit seen.old n ≡ false) }
     ensures { (k : ℕ) → has_bit seen.new k ≡ (eqb k n || has_bit seen.old k) }

@@ -97,6 +97,7 @@ fn repeated_in(pages: &mut [u16], seen: &mut [u8], page: usize, file: &[u8], fro
 // The same with a size of room, new and clear. It is not made part of the function that calls it, whose stack would be touched at every
 // reading, whether anybody looks or not.
 #[inline(never)]
+#[tactic(auto, using(crate::proofs::Pages::room))]
 fn in_room<const PAGE: usize, const PAGES: usize, const BYTES: usize>(
     file: &[u8],
     from: usize,

@@ -1,8 +1,8 @@
 // A roster as text: entity numbers separated by blanks or line ends. A text of any length is read piece by piece.
 ghost use Rattle.std.specs.Prelude.{◌≡◌, length};
 ghost use Rattle.paper.specs.Buffers.{over};
-ghost use Rattle.typed.specs.Rosters.{separator, begun, noted, wrong_noted, progress_after, closed, grown_if, with_if, read_on, entities_in};
-ghost use Rattle.typed.specs.Rosters.{next_place, begun_if, bytes_with, kept_with, progress_with, shown_in, wrong_in};
+ghost use Rattle.typed.specs.Rosters.{separator, begun, noted, marks_after, progress_after, closed, with_if, read_on, entities_in};
+ghost use Rattle.typed.specs.Rosters.{roster_of, next_place, begun_if, bytes_with, kept_with, progress_with, shown_in, wrong_in};
 ghost use Rattle.typed.specs.Texts.{roster_in, text_begun, text_on};
 
 use crate::words;
@@ -81,11 +81,14 @@ impl Wrong {
 }
 
 impl Progress {
-    // No word is being read.
-    #[tactic(auto, unfolding(crate::specs::Rosters::progress_after))]
-    fn ended(self) -> Progress
-        ensures { result ≡ progress_after self }
+    // A word ends, where there is one.
+    #[tactic(auto, unfolding(crate::specs::Rosters::marks_after, crate::specs::Rosters::progress_after))]
+    fn ended(self, listed: &mut [bool; Session::ROSTER]) -> Progress
+        ensures { (listed.new ≡ marks_after self listed.old) × (result ≡ progress_after self) }
     {
+        if self.word {
+            note(listed, self.number);
+        }
         Progress {
             word: false,
             number: 0,
@@ -134,6 +137,28 @@ impl Progress {
             ..self
         }
     }
+
+    // The parts of a roster are lent one by one: a `&mut Roster` in their place takes a third more time, since progress then goes by memory.
+    #[tactic(auto, unfolding(crate::specs::Rosters::with_if, crate::specs::Rosters::grown_if, crate::specs::Rosters::closed))]
+    fn with(
+        self,
+        b: u8,
+        listed: &mut [bool; Session::ROSTER],
+        bytes: &mut [u8; Roster::SHOWN],
+    ) -> Progress
+        ensures { roster_of listed.new bytes.new result
+            ≡ with_if (separator b) (roster_of listed.old bytes.old self) b }
+    {
+        if separator(b) {
+            return self.ended(listed);
+        }
+        if listed[0] {
+            return self.grown(b, self.kept);
+        }
+        let word = self.begun();
+        let kept = word.keep(b, bytes);
+        word.grown(b, kept)
+    }
 }
 
 impl Roster {
@@ -159,59 +184,35 @@ impl Roster {
         }
     }
 
-    // A word ends, where there is one.
-    #[tactic(auto, unfolding(crate::specs::Rosters::closed, crate::specs::Rosters::marks_after))]
-    fn end(&mut self)
-        ensures { self.new ≡ closed self.old }
-    {
-        if self.progress.word {
-            note(&mut self.listed, self.progress.number);
-        }
-        self.progress = self.progress.ended();
-    }
-
-    // A word goes on, or begins.
-    #[tactic(auto, unfolding(crate::specs::Rosters::grown_if))]
-    fn grow(&mut self, b: u8)
-        ensures { self.new ≡ grown_if (wrong_noted self.old.listed) self.old b }
-    {
-        let before = self.progress;
-        if self.listed[0] {
-            self.progress = before.grown(b, before.kept);
-            return;
-        }
-        let word = before.begun();
-        let kept = word.keep(b, &mut self.bytes);
-        self.progress = word.grown(b, kept);
-    }
-
-    #[tactic(auto, unfolding(crate::specs::Rosters::with_if))]
-    fn take(&mut self, b: u8)
-        ensures { self.new ≡ with_if (separator b) self.old b }
-    {
-        if separator(b) {
-            self.end();
-        } else {
-            self.grow(b);
-        }
-    }
-
     // A word ends with the text too.
-    pub fn closed(mut self) -> Roster
+    #[tactic(auto, unfolding(crate::specs::Rosters::closed))]
+    pub fn closed(self) -> Roster
         ensures { result ≡ closed self }
     {
-        self.end();
-        self
+        let mut listed = self.listed;
+        let progress = self.progress.ended(&mut listed);
+        Roster {
+            listed,
+            progress,
+            ..self
+        }
     }
 
     // The next piece of the text.
-    fn read(mut self, piece: &[u8]) -> Roster
+    fn read(self, piece: &[u8]) -> Roster
         ensures { result ≡ read_on self piece.now }
     {
+        let mut listed = self.listed;
+        let mut bytes = self.bytes;
+        let mut progress = self.progress;
         for b in piece {
-            self.take(*b);
+            progress = progress.with(*b, &mut listed, &mut bytes);
         }
-        self
+        Roster {
+            listed,
+            bytes,
+            progress,
+        }
     }
 
     // The first word that is no entity's number.

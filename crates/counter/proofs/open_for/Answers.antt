@@ -1,10 +1,9 @@
-use Rattle.files.proofs.Parts.{front}
 use Rattle.intake.proofs.Gathering.{inside}
+use Rattle.io.proofs.Counting.{length-take_of_le}
 use Rattle.counter.proofs.open_for.Goals as goal
 
 pub slice_bounds-entities-end : goal.slice_bounds-entities-end
-slice_bounds-entities-end g c =
-    inside _ _ _ _ c.in-Entities.is c.gather-roll.ensures
+slice_bounds-entities-end g c = inside c.in-Ok.ensures
 
 pub slice_bounds-open-end : goal.slice_bounds-open-end
-slice_bounds-open-end g c = front _ _ ((inside _ _ _ _ c.in-Entities.is c.gather-roll.ensures))
+slice_bounds-open-end g c = length-take_of_le _ _ (inside c.in-Ok.ensures)

@@ -1,47 +1,52 @@
-use Rattle.std.proofs.Common.{arith, ◌≤◌}
-use Rattle.building.proofs.Bodies.{none_numbered, places_few, numbering_few, tally_below, on_tray_lem, falls, room_for, room_long, part_there, part_long, one_numbered, all_batched, still_long}
+use Rattle.std.proofs.Common.{ap, arith, not, refl, ◌/◌, length, ◌≡◌, drop}
+use Rattle.batches.specs.Blocks.{own_at}
+use Rattle.batches.proofs.Own.{own_there, none_there}
+use Rattle.tray.specs.Trays.{bodies}
+use Rattle.tray.proofs.Places.{bodies_at, length_bodies}
+use Rattle.building.proofs.Bodies.{none_numbered, numbering_few, tally_below, room_for, room_long, one_numbered, all_batched, still_long}
 use Rattle.building.proofs.batch.own.Goals as goal
-use Rattle.building.proofs.batch.own.Goals.{At-loop-at}
+use Rattle.building.proofs.batch.own.Goals.{After-opens}
 
-few : (c : At-loop-at) → c.loop-at.place ≤ 10000
-few c = search places_few
+-- whether this record is one of those up to the next batch header
+mine : (c : After-opens) → not c.opens.result ≡ own_at (drop c.loop-records.records (bodies c.args.tray.now))
+mine c = own_there _ c.loop-records.records (bodies_at c.args.tray.now c.loop-records.records (omega arith)) c.opens.result (rw c.body_at-body.ensures.0 at c.opens.ensures)
+
+pub loop-records-init : goal.loop-records-init
+loop-records-init c = none_numbered _ _ _
+
+pub returns-then-opens : goal.returns-then-opens
+returns-then-opens c =
+    (all_batched c.requires c.loop-records.invariant (mine (goal.at.returns-then-opens c).After-opens) (ap not c.if-opens.true), c.loop-records.invariant.numbering)
+
+pub shape_of-dst-then-opens : goal.shape_of-dst-then-opens
+shape_of-dst-then-opens c = still_long c.requires c.loop-records.invariant (mine (goal.at.shape_of-dst-then-opens c).After-opens) (ap not c.if-opens.true)
+
+pub slice_bounds-write-end : goal.slice_bounds-write-end
+slice_bounds-write-end c =
+    omega (arith, room_for c.requires c.loop-records.invariant (mine (goal.at.slice_bounds-write-end c).After-opens) (ap not c.if-opens.false))
 
 pub write-numbering-requires : goal.write-numbering-requires
 write-numbering-requires c =
-    record { long = c.body_at.ensures.1; few = numbering_few c.requires c.loop-at.invariant; room = search room_long }
-
-pub returns : goal.returns
-returns c = (search all_batched, c.loop-at.invariant.numbering)
-
-pub loop-at-init : goal.loop-at-init
-loop-at-init c = none_numbered _ _ _
-
-pub overflow_mul-at : goal.overflow_mul-at
-overflow_mul-at c = omega (arith, few (goal.at.overflow_mul-at c).At-loop-at)
-
-pub overflow_add-end : goal.overflow_add-end
-overflow_add-end c = omega (arith, few (goal.at.overflow_add-end c).At-loop-at)
-
-pub slice_bounds-write-end : goal.slice_bounds-write-end
-slice_bounds-write-end c = search room_for
-
-pub body_at-requires : goal.body_at-requires
-body_at-requires c = search on_tray_lem
-
-pub slice_bounds-count-end : goal.slice_bounds-count-end
-slice_bounds-count-end c = search part_there
+    record {
+      long = c.body_at-body.ensures.1;
+      few = numbering_few c.requires c.loop-records.invariant;
+      room = room_long c.requires c.loop-records.invariant (mine (goal.at.write-numbering-requires c).After-opens) (ap not c.if-opens.false);
+    }
 
 pub count-tally-requires : goal.count-tally-requires
-count-tally-requires c = record { rec_len = search part_long; below = search tally_below }
+count-tally-requires c = record { below = tally_below c.requires c.loop-records.invariant }
 
-pub overflow_add-place : goal.overflow_add-place
-overflow_add-place c = omega (arith, few (goal.at.overflow_add-place c).At-loop-at)
-
-pub loop-at-smaller : goal.loop-at-smaller
-loop-at-smaller c = search falls
-
-pub loop-at-preserved : goal.loop-at-preserved
-loop-at-preserved c = search one_numbered
+pub loop-records-preserved : goal.loop-records-preserved
+loop-records-preserved c =
+    one_numbered c.requires c.loop-records.invariant (mine (goal.at.loop-records-preserved c).After-opens) (ap not c.if-opens.false)
+    c.body_at-body.ensures.0 c.write-numbering.ensures.0 c.write-numbering.ensures.1 (rw c.whole.ensures at c.count-tally.ensures)
 
 pub shape_of-dst : goal.shape_of-dst
-shape_of-dst c = search still_long
+shape_of-dst c =
+    still_long c.requires c.loop-records.invariant (none_there (bodies c.args.tray.now) c.loop-records.records (omega (arith, length_bodies c.args.tray.now))) refl
+
+pub returns : goal.returns
+returns c =
+    let e : c.loop-records.records ≡ length c.args.tray.now / 96 = omega arith in
+    let none = none_there (bodies c.args.tray.now) c.loop-records.records (omega (arith, length_bodies c.args.tray.now)) in
+    rw (← e) (all_batched c.requires c.loop-records.invariant none refl, c.loop-records.invariant.numbering)

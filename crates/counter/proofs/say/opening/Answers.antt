@@ -1,5 +1,5 @@
 use Rattle.std.proofs.Common.{◌∙◌}
-use Rattle.files.proofs.Parts.{front}
+use Rattle.io.proofs.Counting.{length-take_of_le}
 use Rattle.listing.proofs.Printing.{counted}
 use Rattle.counter.proofs.say.opening.Goals as goal
 
@@ -8,7 +8,7 @@ pub slice_bounds-line-end : goal.slice_bounds-line-end
 slice_bounds-line-end g c = counted _ _ c.opening-n.ensures
 
 pub slice_bounds-printed-end : goal.slice_bounds-printed-end
-slice_bounds-printed-end g c = front _ _ (counted _ _ c.opening-n.ensures)
+slice_bounds-printed-end g c = length-take_of_le _ _ (counted _ _ c.opening-n.ensures)
 
 pub returns : goal.returns
 returns g c =

@@ -1,4 +1,4 @@
-use Rattle.files.proofs.Parts.{front}
+use Rattle.io.proofs.Counting.{length-take_of_le}
 use Rattle.listing.proofs.Printing.{counted}
 use Rattle.counter.proofs.say.part.Goals as goal
 
@@ -7,4 +7,4 @@ pub slice_bounds-line-end : goal.slice_bounds-line-end
 slice_bounds-line-end g c = counted _ _ c.part-n.ensures
 
 pub slice_bounds-printed-end : goal.slice_bounds-printed-end
-slice_bounds-printed-end g c = front _ _ (counted _ _ c.part-n.ensures)
+slice_bounds-printed-end g c = length-take_of_le _ _ (counted _ _ c.part-n.ensures)

@@ -7,7 +7,7 @@ pub loop-b-preserved : goal.loop-b-preserved
 unfolding read_on
 loop-b-preserved c =
     let next = drop-cons c.args.piece.now c.loop-b.b-index 0 c.loop-b-test.true in
-    rw (add-one, c.take.ensures) (rw next at c.loop-b.invariant)
+    rw (add-one, c.with-progress.ensures) (rw next at c.loop-b.invariant)
 
 pub returns : goal.returns
 unfolding read_on
