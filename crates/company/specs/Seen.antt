@@ -1,8 +1,8 @@
 -- A company's file looked at in pieces.
-use Rattle.std.specs.Prelude.{ℕ, ◌+◌, ◌/◌, ◌%◌, ◌≤◌, ◌<◌, Bool, true, false, ◌&&◌, List, ◌≡◌, Option, Some, None, Ok, Err, leb, eqb, ltb, length}
+use Rattle.std.specs.Prelude.{ℕ, ◌+◌, ◌/◌, ◌%◌, ◌≤◌, ◌<◌, Bool, true, false, ◌&&◌, List, ◌≡◌, Option, Some, None, Ok, leb, eqb, ltb, length}
 use Rattle.paper.specs.declared.rules.Currency.{Currency}
 use Rattle.paper.specs.declared.answer.Refusal.{Refusal}
-use Rattle.paper.specs.Answers.{Said, said, accepted, refused, and_then, require}
+use Rattle.paper.specs.Answers.{Said, said, refused_by, accepted, refused, and_then, require}
 use Rattle.paper.specs.Reading.{parts}
 use Rattle.tray.specs.Seen.{most_seen}
 use Rattle.company.specs.declared.pieces.Pieces.{Pieces}
@@ -80,5 +80,5 @@ long_company p lo =
 
 -- it is given of a file that has an end, and of no other
 abbrev pub CompanyTells : Pieces → List ℕ → Option Refusal → Type 0
-CompanyTells p lo (Some r) = (p.records ≤ most_seen) × (said (Err r) ≡ long_company p lo)
+CompanyTells p lo (Some r) = (p.records ≤ most_seen) × (refused_by r ≡ long_company p lo)
 CompanyTells p lo None = most_seen < p.records

@@ -1,2 +1,4 @@
+pub mod Endings
+pub mod Printed
 pub mod Written
 pub mod Members

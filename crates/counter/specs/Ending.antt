@@ -1,13 +1,16 @@
 -- How the program ends by an answer.
-use Rattle.std.specs.Prelude.{◌≡◌}
+use Rattle.std.specs.Prelude.{◌≡◌, Result, Ok, Err}
 use Rattle.paper.specs.Answers.{Said, accepted, refused}
-use Rattle.files.specs.declared.ending.Ended.{Ended}
-use Rattle.files.specs.declared.ending.Ended.TheVariants.{Accepted, Refused, Undone}
+use Rattle.files.specs.declared.ending.Stopped.{Stopped}
+use Rattle.files.specs.declared.ending.Stopped.TheVariants.{Refused, Undone}
+
+abbrev pub Ended : Type 0
+Ended = Result (Unit {0}) Stopped
 
 unfoldable pub ended_by : Said → Ended
-ended_by accepted = Accepted
-ended_by (refused n place) = Refused
+ended_by accepted = Ok tt
+ended_by (refused n place) = Err Refused
 
 -- so, unless it could not be done
 abbrev pub Ends : Ended → Ended → Type 0
-Ends wanted r = (r ≡ Undone → ⊥) → r ≡ wanted
+Ends wanted r = (r ≡ Err Undone → ⊥) → r ≡ wanted

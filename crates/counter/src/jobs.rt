@@ -7,7 +7,7 @@ ghost use Rattle.counter.specs.InBuffer.{InBuffer};
 use crate::world::World;
 use crate::{member, say, share, world};
 use desk::{Reply, Session};
-use files::ending::Ended;
+use files::ending::Stopped;
 use files::{args, taking};
 use handing::{Unwritten, modes};
 use intake::held::Size;
@@ -15,8 +15,7 @@ use intake::long::Took;
 use intake::roster::Roll;
 use intake::{held, long};
 use looking::Form;
-use paper::answer::{Answer, Output};
-use tray::pieces::Known;
+use paper::answer::Refusal;
 use typed::call::{Job, Word};
 use typed::words;
 
@@ -26,7 +25,7 @@ fn mode(rt: &impl World, i: usize) -> Option<u32> {
     modes::of(args::word(rt, Word::MODES, &mut word), i)
 }
 
-// The bytes under that path, in a file of mode i.
+// The bytes under that path, in a file of mode i, and how many they are.
 pub(crate) fn put(rt: &impl World, path: &[u8], i: usize, bytes: &[u8]) -> Result<usize, Unwritten>
     requires { length path.now ≤ 4096 }
     ensures { AllOf bytes.now result }
@@ -37,103 +36,62 @@ pub(crate) fn put(rt: &impl World, path: &[u8], i: usize, bytes: &[u8]) -> Resul
 }
 
 // Acceptance is said once the bytes are where they belong.
-pub(crate) fn hand_over(rt: &impl World, word: usize, output: Output, out: &[u8]) -> Ended
+pub(crate) fn hand_over(
+    rt: &impl World,
+    word: usize,
+    output: Result<usize, Refusal>,
+    out: &[u8],
+) -> Result<(), Stopped>
     requires { InBuffer output out.now }
 {
-    let Output::Accepted(n) = output else {
-        return say::output(rt, output);
-    };
+    let n = output.map_err(|refusal| say::refusal(rt, refusal))?;
     let mut path = io::buffer();
-    let Ok(path) = taking::name(rt, word, &mut path) else {
-        return Ended::Undone;
-    };
-    let Ok(bytes) = put(rt, path, 0, &out[..n]) else {
-        return Ended::Undone;
-    };
-    say::output(rt, Output::Accepted(bytes))
+    let path = taking::name(rt, word, &mut path)?;
+    let bytes = put(rt, path, 0, &out[..n])?;
+    say::output(rt, bytes)
 }
 
-fn read(rt: &impl World, session: Session) -> Ended {
+fn read(rt: &impl World, session: &Session) -> Result<(), Stopped> {
     let mut input: [u8; Size::INPUT] = held::zeros();
-    let Ok((_, n)) = taking::file(rt, Word::FIRST, &mut input) else {
-        return Ended::Undone;
-    };
-    say::answer(rt, session.read(&input[..n]))
+    let file = world::file(rt, Word::FIRST, &mut input)?;
+    say::answer(rt, session.read(file))
 }
 
-// The session after a file was presented, and how that ended.
-#[derive(Drop)]
-struct Turn {
-    ended: Ended,
-    session: Session,
+fn present_named(rt: &impl World, session: &mut Session, path: &[u8]) -> Result<(), Stopped>
+    requires { Reachable session.old }
+    ensures { Reachable session.new }
+{
+    let mut input: [u8; Size::INPUT] = held::zeros();
+    let (_, n) = taking::file_named(rt, path, &mut input)?;
+    let answer = session.present(&input[..n]);
+    say::named(rt, answer, path)
 }
 
 // The file that a word names, presented.
-fn present_one(rt: &impl World, session: Session, word: usize) -> Turn
-    requires { Reachable session }
-    ensures { Reachable result.session }
+fn present_one(rt: &impl World, session: &mut Session, word: usize) -> Result<(), Stopped>
+    requires { Reachable session.old }
+    ensures { Reachable session.new }
 {
     let mut path = io::buffer();
-    let Ok(path) = taking::name(rt, word, &mut path) else {
-        return Turn {
-            ended: Ended::Undone,
-            session,
-        };
-    };
-    present_named(rt, session, path)
-}
-
-fn present_named(rt: &impl World, session: Session, path: &[u8]) -> Turn
-    requires { Reachable session }
-    ensures { Reachable result.session }
-{
-    let mut input: [u8; Size::INPUT] = held::zeros();
-    let Ok((_, n)) = taking::file_named(rt, path, &mut input) else {
-        return Turn {
-            ended: Ended::Undone,
-            session,
-        };
-    };
-    let reply = session.present(&input[..n]);
-    let answer = reply.answer;
-    let ended = say::named(rt, answer, path);
-    let after = reply.session;
-    Turn {
-        ended,
-        session: after,
-    }
-}
-
-// What comes of both.
-fn both(before: Ended, now: Ended) -> Ended {
-    match now {
-        Ended::Accepted => before,
-        Ended::Refused => Ended::Refused,
-        Ended::Undone => Ended::Undone,
-    }
+    present_named(rt, session, taking::name(rt, word, &mut path)?)
 }
 
 // A file that cannot be read ends the day without a listing: one that lacks a file would look whole.
-fn present(rt: &impl World, session: Session) -> Ended
-    requires { Reachable session }
+fn present(rt: &impl World, session: &mut Session) -> Result<(), Stopped>
+    requires { Reachable session.old }
 {
-    let count = world::words(rt);
-    let mut after = session;
-    let mut ended = Ended::Accepted;
-    let mut word = Word::FIRST;
-    while word < count {
-        let turn = present_one(rt, after, word);
-        word += 1;
-        let now = turn.ended;
-        if let Ended::Undone = now {
-            return Ended::Undone;
+    let mut ended = Ok(());
+    for word in Word::FIRST..world::words(rt) {
+        let now = present_one(rt, session, word);
+        if now == Err(Stopped::Undone) {
+            return now;
         }
-        ended = both(ended, now);
-        after = turn.session;
+        ended = now.and(ended);
     }
-    both(ended, say::list(rt, after))
+    say::list(rt, session).and(ended)
 }
 
+#[tactic(auto, using(typed::proofs::Numbers::entity_below))]
 pub(crate) fn entity(rt: &impl World) -> u64
     ensures { result < 5000 }
 {
@@ -141,86 +99,66 @@ pub(crate) fn entity(rt: &impl World) -> u64
     words::entity(args::word(rt, Word::FIRST, &mut word))
 }
 
-fn extract(rt: &impl World, session: Session) -> Ended {
+fn extract(rt: &impl World, session: &Session) -> Result<(), Stopped> {
     let mut input: [u8; Size::INPUT] = held::zeros();
-    let Ok((_, n)) = taking::file(rt, Word::SECOND, &mut input) else {
-        return Ended::Undone;
-    };
+    let file = world::file(rt, Word::SECOND, &mut input)?;
     let mut out: [u8; Size::OUTPUT] = held::zeros();
-    let output = session.extract(entity(rt), &input[..n], &mut out);
+    let output = session.extract(entity(rt), file, &mut out);
     hand_over(rt, Word::THIRD, output, &out)
 }
 
-fn strip(rt: &impl World, session: Session) -> Ended {
+fn strip(rt: &impl World, session: &Session) -> Result<(), Stopped> {
     let mut input: [u8; Size::INPUT] = held::zeros();
-    let Ok((_, n)) = taking::file(rt, Word::FIRST, &mut input) else {
-        return Ended::Undone;
-    };
+    let file = world::file(rt, Word::FIRST, &mut input)?;
     let mut out: [u8; Size::OUTPUT] = held::zeros();
-    let output = session.strip(&input[..n], &mut out);
+    let output = session.strip(file, &mut out);
     hand_over(rt, Word::SECOND, output, &out)
 }
 
-fn build(rt: &impl World, session: Session) -> Ended {
+// All that stands under that name; the refusal of what is longer than its job can take is said.
+pub(crate) fn whole<'a>(
+    rt: &impl World,
+    form: Form,
+    path: &[u8],
+    body: &[u8],
+    input: &'a mut [u8; Size::LONG],
+) -> Result<&'a [u8], Stopped> {
+    match long::take(rt, form, path, body, input)? {
+        Took::Whole(n, _) => Ok(&input[..n]),
+        Took::Long(refusal, _, _) => Err(say::refusal(rt, refusal)),
+    }
+}
+
+fn build(rt: &impl World, session: &Session) -> Result<(), Stopped> {
     // one byte more than a header body shows that there was more
     let mut header = [0u8; Session::RECORD + 1];
-    let Ok((_, n)) = taking::file(rt, Word::FIRST, &mut header) else {
-        return Ended::Undone;
-    };
-    build_from(rt, session, &header[..n])
-}
-
-fn build_from(rt: &impl World, session: Session, header: &[u8]) -> Ended {
+    let header = world::file(rt, Word::FIRST, &mut header)?;
     let mut path = io::buffer();
-    let Ok(path) = taking::name(rt, Word::SECOND, &mut path) else {
-        return Ended::Undone;
-    };
-    build_of(rt, session, header, path)
-}
-
-// From the tray of that name.
-fn build_of(rt: &impl World, session: Session, header: &[u8], path: &[u8]) -> Ended {
-    let mut input = held::zeros();
-    let Ok(took) = long::take(rt, Form::Tray, path, header, &mut input) else {
-        return Ended::Undone;
-    };
-    let Took::Whole(n, _) = took else {
-        return say_long(rt, took);
-    };
+    let path = taking::name(rt, Word::SECOND, &mut path)?;
+    let mut input: [u8; Size::LONG] = held::zeros();
+    let tray = whole(rt, Form::Tray, path, header, &mut input)?;
     let mut out: [u8; Size::OUTPUT] = held::zeros();
-    let output = session.build(header, &input[..n], &mut out);
+    let output = session.build(header, tray, &mut out);
     hand_over(rt, Word::THIRD, output, &out)
 }
 
-pub(crate) fn say_long(rt: &impl World, took: Took) -> Ended {
-    let Took::Long(known, _, _) = took else {
-        return Ended::Undone;
-    };
-    // `take` always has an answer: no source comes to more records than are looked at
-    let Known::Finite(answer) = known else {
-        return Ended::Undone;
-    };
-    say::answer(rt, answer)
-}
-
-// The job, where the session was opened.
-pub(crate) fn run(rt: &impl World, job: Job, opened: Reply, roll: Roll) -> Ended
+// The job, where the session was opened. A `match` and no table: it names every job, and one of them changes the session.
+pub(crate) fn run(rt: &impl World, job: Job, opened: Reply, roll: &Roll) -> Result<(), Stopped>
     requires { Reachable opened.session }
 {
-    let answer = opened.answer;
-    let Answer::Accepted = answer else {
-        return say::refused_opening(rt, answer, roll);
-    };
-    let session = opened.session;
+    if let Err(refusal) = opened.answer {
+        return say::opening(rt, refusal, roll);
+    }
+    let mut session = opened.session;
     match job {
-        Job::Read => read(rt, session),
-        Job::Present => present(rt, session),
-        Job::Extract => extract(rt, session),
-        Job::Build => build(rt, session),
-        Job::Strip => strip(rt, session),
-        Job::Share => share::share(rt, session),
-        Job::Receive => member::receive(rt, session),
-        Job::Reason => member::reason(rt, session),
-        Job::Reasons => member::reasons(rt, session),
+        Job::Read => read(rt, &session),
+        Job::Present => present(rt, &mut session),
+        Job::Extract => extract(rt, &session),
+        Job::Build => build(rt, &session),
+        Job::Strip => strip(rt, &session),
+        Job::Share => share::share(rt, &session),
+        Job::Receive => member::receive(rt, &session),
+        Job::Reason => member::reason(rt, &session),
+        Job::Reasons => member::reasons(rt, &session),
     }
 }

@@ -4,7 +4,7 @@
 ghost use Rattle.std.specs.Prelude.{◌^◌, ◌<◌};
 
 use desk::Session;
-use files::ending::Ended;
+use files::ending::Stopped;
 use files::{args, ending, taking};
 use intake::roster;
 use paper::rules::Currency;
@@ -22,8 +22,8 @@ mod world;
 // Standard error.
 const STDERR: i32 = 2;
 
-// What the words of this call ask for.
-fn called(rt: &impl World) -> Asked {
+// What the words of this call ask for, if anything.
+fn called(rt: &impl World) -> Option<Asked> {
     let mut job = io::buffer();
     let job = args::word(rt, Word::JOB, &mut job);
     let mut next = io::buffer();
@@ -33,6 +33,7 @@ fn called(rt: &impl World) -> Asked {
     call::asked_for(job, next, currency, world::words(rt))
 }
 
+#[tactic(auto, using(typed::proofs::Numbers::date_below))]
 fn date(rt: &impl World) -> u64
     ensures { result < 10 ^ 6 }
 {
@@ -59,33 +60,24 @@ fn usage() {
     );
 }
 
-// The job in the session that this roster opens.
-fn open_for(rt: &impl World, job: Job, currency: Currency, path: &[u8]) -> Ended {
-    let mut entities = [0u64; Session::ROSTER];
-    let Ok(roll) = roster::gather(rt, path, &mut entities) else {
-        return Ended::Undone;
-    };
-    let opened = Session::open(date(rt), currency, &entities[..roll.count]);
-    jobs::run(rt, job, opened, roll)
-}
-
-// A job in a session of a currency.
-fn serve_in(rt: &impl World, job: Job, currency: Currency) -> Ended {
+// A job in a session of a currency, which the roster opens.
+fn serve_in(rt: &impl World, job: Job, currency: Currency) -> Result<(), Stopped> {
     let mut path = io::buffer();
-    let Ok(path) = taking::name(rt, Word::ROSTER, &mut path) else {
-        return Ended::Undone;
-    };
-    open_for(rt, job, currency, path)
+    let path = taking::name(rt, Word::ROSTER, &mut path)?;
+    let mut entities = [0u64; Session::ROSTER];
+    let roll = roster::gather(rt, path, &mut entities)?;
+    let opened = Session::open(date(rt), currency, &entities[..roll.count]);
+    jobs::run(rt, job, opened, &roll)
 }
 
 // What is asked for, done.
-fn serve(rt: &impl World) -> Ended {
+fn serve(rt: &impl World) -> Result<(), Stopped> {
     match called(rt) {
-        Asked::To(job, currency) => serve_in(rt, job, currency),
-        Asked::Company(currency) => making::make(rt, currency),
-        Asked::Nothing => {
+        Some(Asked::To(job, currency)) => serve_in(rt, job, currency),
+        Some(Asked::Company(currency)) => making::make(rt, currency),
+        None => {
             usage();
-            Ended::Undone
+            Err(Stopped::Undone)
         }
     }
 }

@@ -1,122 +1,124 @@
 // What is printed, each line the bytes of a proved function, and how the program ends by it. An answer that nobody can read is no answer.
-ghost use Rattle.std.specs.Prelude.{◌≡◌, ◌≤◌, length};
+#![tactic(auto, using(crate::proofs::Printed::printed))]
+
+ghost use Rattle.std.specs.Prelude.{Ok, Err, ◌≡◌, ◌≤◌, length};
 ghost use Rattle.paper.specs.Answers.{said};
 ghost use Rattle.desk.specs.Calls.{Reachable};
 ghost use Rattle.counter.specs.Ending.{ended_by, Ends};
 
 use crate::world::World;
 use desk::Session;
-use files::ending::Ended;
+use files::ending::Stopped;
 use files::saying;
 use intake::roster::Roll;
 use listing::{Listing, answers, reason};
-use paper::answer::{Answer, Fault, Output};
-use typed::roster::Which;
+use paper::answer::{Fault, Refusal};
 
-// Ended so, where the line could be printed.
-fn printed(rt: &impl World, line: &[u8], ended: Ended) -> Ended
-    ensures { Ends ended result }
+// A line, where it could be printed.
+fn printed(rt: &impl World, line: &[u8]) -> Result<(), Stopped>
+    ensures { Ends (Ok tt) result }
 {
-    match rt.write_all(line) {
-        Ok(()) => ended,
-        Err(error) => {
-            saying::failed(b"standard output", &error);
-            Ended::Undone
-        }
-    }
+    rt.write_all(line)
+        .inspect_err(|error| saying::failed(b"standard output", error))
+        .map_err(|_| Stopped::Undone)
 }
 
-fn ended_by(answer: Answer) -> Ended
+#[tactic(auto, unfolding(crate::specs::Ending::ended_by))]
+fn ended_by(answer: Result<(), Refusal>) -> Result<(), Stopped>
     ensures { result ≡ ended_by (said answer) }
 {
-    match answer {
-        Answer::Accepted => Ended::Accepted,
-        Answer::Refused(_, _) => Ended::Refused,
-    }
-}
-
-fn opening(rt: &impl World, answer: Answer) -> Ended
-    ensures { Ends (ended_by (said answer)) result }
-{
-    let mut line = [0u8; Listing::LINE];
-    let n = answers::opening(answer, &mut line);
-    printed(rt, &line[..n], ended_by(answer))
+    answer.map_err(|_| Stopped::Refused)
 }
 
 // The word of the roster that an opening was refused for by 208.
-fn word(rt: &impl World, answer: Answer, roll: Roll, ended: Ended) -> Ended {
-    let Answer::Refused(fault, _) = answer else {
-        return ended;
+fn word(rt: &impl World, refusal: Refusal, roll: &Roll) -> Result<(), Stopped>
+    ensures { Ends (Ok tt) result }
+{
+    if refusal.fault != Fault::Entity {
+        return Ok(());
+    }
+    let Some(wrong) = roll.wrong() else {
+        return Ok(());
     };
-    let Fault::Entity = fault else {
-        return ended;
-    };
-    let wrong = roll.wrong();
-    let word = wrong.word;
-    let Which::Word(place, size) = word else {
-        return ended;
-    };
-    let bytes = wrong.bytes;
     let mut line = [0u8; Listing::WORD_LINE];
-    let n = answers::word(place, &bytes[..size], &mut line);
-    printed(rt, &line[..n], ended)
+    let n = answers::word(wrong.place, wrong.shown(), &mut line);
+    printed(rt, &line[..n])
 }
 
-pub(crate) fn refused_opening(rt: &impl World, answer: Answer, roll: Roll) -> Ended {
-    let ended = opening(rt, answer);
-    let Ended::Refused = ended else {
-        return ended;
-    };
-    word(rt, answer, roll, ended)
+pub(crate) fn opening(rt: &impl World, refusal: Refusal, roll: &Roll) -> Result<(), Stopped>
+    ensures { Ends (ended_by (said (Err refusal))) result }
+{
+    let mut line = [0u8; Listing::LINE];
+    let n = answers::opening(Err(refusal), &mut line);
+    printed(rt, &line[..n])?;
+    word(rt, refusal, roll)?;
+    ended_by(Err(refusal))
 }
 
-pub(crate) fn answer(rt: &impl World, answer: Answer) -> Ended
+pub(crate) fn answer(rt: &impl World, answer: Result<(), Refusal>) -> Result<(), Stopped>
     ensures { Ends (ended_by (said answer)) result }
 {
     let mut line = [0u8; Listing::LINE];
     let n = answers::answer(answer, &mut line);
-    printed(rt, &line[..n], ended_by(answer))
+    printed(rt, &line[..n])?;
+    ended_by(answer)
+}
+
+// A refusal by itself.
+#[tactic(auto, using(crate::proofs::Endings::stops))]
+pub(crate) fn refusal(rt: &impl World, refusal: Refusal) -> Stopped
+    ensures { Ends (ended_by (said (Err refusal))) (Err result) }
+{
+    answer(rt, Err(refusal)).unwrap_err()
 }
 
 // With the name of its file.
-pub(crate) fn named(rt: &impl World, answer: Answer, name: &[u8]) -> Ended
+pub(crate) fn named(
+    rt: &impl World,
+    answer: Result<(), Refusal>,
+    name: &[u8],
+) -> Result<(), Stopped>
     ensures { Ends (ended_by (said answer)) result }
 {
     let mut line = [0u8; Listing::NAMED];
     let n = answers::named(answer, name, &mut line);
-    printed(rt, &line[..n], ended_by(answer))
+    printed(rt, &line[..n])?;
+    ended_by(answer)
 }
 
 // What was handed out to an entity.
-pub(crate) fn part(rt: &impl World, entity: u64, bytes: usize) -> Ended {
+pub(crate) fn part(rt: &impl World, entity: u64, bytes: usize) -> Result<(), Stopped> {
     let mut line = [0u8; Listing::LINE];
     let n = answers::part(entity, bytes, &mut line);
-    printed(rt, &line[..n], Ended::Accepted)
+    printed(rt, &line[..n])
 }
 
-pub(crate) fn output(rt: &impl World, output: Output) -> Ended {
+// What was written.
+pub(crate) fn output(rt: &impl World, bytes: usize) -> Result<(), Stopped> {
     let mut line = [0u8; Listing::LINE];
-    let n = answers::output(output, &mut line);
-    match output {
-        Output::Accepted(_) => printed(rt, &line[..n], Ended::Accepted),
-        Output::Refused(_, _) => printed(rt, &line[..n], Ended::Refused),
-    }
+    let n = answers::output(Ok(bytes), &mut line);
+    printed(rt, &line[..n])
 }
 
 // Why a debit came back, by the record at a place; nothing where that says none.
-pub(crate) fn reason<'a>(rt: &impl World, file: &'a [u8], motives: &'a [u8], place: usize) -> Ended
+pub(crate) fn reason(
+    rt: &impl World,
+    file: &[u8],
+    motives: &[u8],
+    place: usize,
+) -> Result<(), Stopped>
     requires { length file.now ≤ 940000 }
 {
     let mut line = [0u8; Listing::REASON];
     let n = reason::line(file, motives, place, &mut line);
-    printed(rt, &line[..n], Ended::Accepted)
+    printed(rt, &line[..n])
 }
 
 // The listing of the session, whatever its last answer was.
-pub(crate) fn list(rt: &impl World, session: Session) -> Ended
-    requires { Reachable session }
+pub(crate) fn list(rt: &impl World, session: &Session) -> Result<(), Stopped>
+    requires { Reachable session.now }
 {
     let mut lines = [0u8; Listing::ROOM];
     let n = listing::print(session, &mut lines);
-    printed(rt, &lines[..n], Ended::Accepted)
+    printed(rt, &lines[..n])
 }

@@ -1,4 +1,6 @@
 // What a job asks of the system: the words of the call, files by name, and where lines are printed.
+use files::ending::Stopped;
+use files::taking;
 use std::env::FillError;
 use std::fs::File;
 use std::rt::{Env, Files};
@@ -10,10 +12,17 @@ impl World for HostRuntime {}
 // How many words the call has, the name of the program among them.
 pub(crate) fn words(rt: &impl World) -> usize {
     let mut none = [0u8; 1];
-    for i in 0..usize::MAX {
-        if let Err(FillError::NotPresent) = rt.arg(i, &mut none) {
-            return i;
-        }
-    }
-    usize::MAX
+    (0..usize::MAX)
+        .find(|i| matches!(rt.arg(*i, &mut none), Err(FillError::NotPresent)))
+        .unwrap_or(usize::MAX)
+}
+
+// The file that a word names, as much of it as the buffer takes.
+pub(crate) fn file<'a>(
+    rt: &impl World,
+    word: usize,
+    buf: &'a mut [u8],
+) -> Result<&'a [u8], Stopped> {
+    let (_, n) = taking::file(rt, word, buf)?;
+    Ok(&buf[..n])
 }

@@ -1,7 +1,7 @@
 // Prints the positions that the file on standard input makes, or why it is refused.
 #![tactic(auto)]
 
-use files::ending::Ended;
+use files::ending::Stopped;
 use files::{ending, saying, standard};
 use listing::Listing;
 use std::io::Error;
@@ -16,28 +16,25 @@ const STDERR: i32 = 2;
 const PAST_LIMIT: usize = Listing::INPUT + 1;
 
 // A call of the system failed on standard input or output; the error says why.
-fn failed(what: &[u8], error: &Error) -> Ended {
+fn failed(what: &[u8], error: &Error) -> Stopped {
     io::write_all(STDERR, b"positions: ");
     saying::fail(what, error);
-    Ended::Undone
+    Stopped::Undone
 }
 
-fn serve(rt: &(impl Input + Print)) -> Ended {
+fn serve(rt: &(impl Input + Print)) -> Result<(), Stopped> {
     let mut file = [0u8; PAST_LIMIT];
-    let n = match standard::input(rt, &mut file) {
-        Ok(n) => n,
-        Err(error) => return failed(b"standard input", &error),
-    };
+    let n =
+        standard::input(rt, &mut file).map_err(|error| failed(b"standard input", &error))?;
     let mut out = [0u8; Listing::ROOM];
     let written = listing::positions(&file[..n], &mut out);
-    if let Err(error) = rt.write_all(&out[..written]) {
-        return failed(b"standard output", &error);
-    }
+    rt.write_all(&out[..written])
+        .map_err(|error| failed(b"standard output", &error))?;
     // a listing begins with its heading, a refusal with its word
     if out[0] == b'R' {
-        return Ended::Refused;
+        return Err(Stopped::Refused);
     }
-    Ended::Accepted
+    Ok(())
 }
 
 fn main(rt: HostRuntime) {

@@ -1,5 +1,6 @@
 use Rattle.std.proofs.Common.{arith, refl, sym, ◌∙◌}
 use Rattle.paper.proofs.Refusals.{both_accept}
+use Rattle.paper.specs.Answers.{said}
 use Rattle.company.specs.Sums.{sum_in}
 use Rattle.company.proofs.OnePiece.{all_judged, all_added, last_closes}
 use Rattle.company.proofs.pieces.Pieces.further.Goals as goal

@@ -1,6 +1,6 @@
 use Rattle.demands.proofs.Company.{made_inside}
 use Rattle.counter.proofs.Written.{fits}
-use Rattle.counter.proofs.making.make_of.Goals as goal
+use Rattle.counter.proofs.making.make.Goals as goal
 
 pub hand_over-requires : goal.hand_over-requires
 hand_over-requires g c =
