@@ -1,6 +1,6 @@
 -- What is handed over the boundary.
 use Rattle.std.specs.Prelude.{ℕ, ◌+◌, ◌*◌, ◌/◌, ◌<◌, Bool, cond, List, ◌≡◌, ltb, length, set, Result, Ok, Err}
-use Rattle.paper.specs.Answers.{Output, Said, accepted, refused, number_of}
+use Rattle.paper.specs.Answers.{Output, Said, accepted, refused, refused_by}
 use Rattle.paper.specs.Buffers.{Outcome}
 use Rattle.paper.specs.Listing.{currency_if}
 use Rattle.paper.specs.Reading.{reading}
@@ -18,7 +18,7 @@ spoken_of records (refused n place) = record { number = n; place = place }
 -- the same of an answer that carries what was counted
 abbrev pub spoken_by : Output → Spoken
 spoken_by (Ok n) = spoken_of n accepted
-spoken_by (Err r) = spoken_of 0 (refused (number_of r.fault) r.place)
+spoken_by (Err r) = spoken_of 0 (refused_by r)
 
 -- of a job: its answer, and what then stands in all that was lent to be written
 pub record Delivered (Lent : Type 0) : Type 0 where

@@ -20,7 +20,7 @@ pub mod member;
 mod pairs;
 pub mod trays;
 
-// An answer in the paper's numbers: 0 and the number of records, or the refusal number and its place.
+// An answer in the paper's numbers: 0 and the number of records, or the refusal number and its place. No Result: the C interface.
 #[repr(C)]
 #[derive(Clone, Copy)]
 pub struct Spoken {
@@ -33,7 +33,7 @@ impl Spoken {
     pub const OPENING: u64 = 18_446_744_073_709_551_615;
 }
 
-// Figure f of entity e stands at index f * 500 + e: a later figure is appended, and no index moves.
+// Figure f of entity e stands at index f * 500 + e: a later figure is appended, and no index moves. No enum: the C interface.
 #[derive(Clone, Copy)]
 pub struct Figure;
 
@@ -48,6 +48,7 @@ impl Figure {
     pub const FIGURES: usize = 3;
 }
 
+// By a flag, and not by a Currency: the C interface.
 fn currency(dollars: bool) -> Currency
     ensures { result ≡ currency_if dollars }
 {
@@ -93,7 +94,8 @@ fn not_opened(fault: Fault) -> Spoken
     }
 }
 
-// The session opened with this date, currency and list of entities, or what is said of a refused opening.
+// The session opened with this date, currency and list of entities, or what is said of a refused opening. Callers match on it and hand over no closure:
+// nothing is known of a lent buffer that a closure wrote to.
 #[tactic(auto, unfolding(crate::specs::Spoken::session_if))]
 fn opened(date: u64, dollars: bool, entities: &[u64]) -> Result<Session, Spoken>
     ensures { OpenedFor date dollars entities.now result }

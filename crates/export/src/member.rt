@@ -10,7 +10,7 @@ use paper::answer::Refusal;
 use reasons::Shown;
 
 // Where the text of a reason stands. Accepted: 0, the bytes of the text, its source, and the byte of that where it begins. Refused: the
-// refusal number and its place, then 0 and 0.
+// refusal number and its place, then 0 and 0. No enum for the sources: the C interface.
 #[repr(C)]
 #[derive(Clone, Copy)]
 pub struct SpokenText {

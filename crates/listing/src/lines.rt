@@ -1,5 +1,5 @@
 // The lines of a listing, over an array of cells, and the words of an answer.
-ghost use Rattle.std.specs.Prelude.{◌≡◌, [], ◌++◌, ℕ, ◌+◌, ◌*◌, ◌^◌, ◌≤◌, ◌<◌, length, get_or, nat_abs, Err};
+ghost use Rattle.std.specs.Prelude.{◌≡◌, [], ◌++◌, ℕ, ◌+◌, ◌*◌, ◌^◌, ◌≤◌, ◌<◌, length, get_or, nat_abs};
 ghost use Rattle.paper.specs.Answers.{number_of, said, refused_by};
 ghost use Rattle.paper.specs.Demands.{Touched, session_sides};
 ghost use Rattle.paper.specs.Fields.{bytes};
