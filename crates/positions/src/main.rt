@@ -24,8 +24,7 @@ fn failed(what: &[u8], error: &Error) -> Stopped {
 
 fn serve(rt: &(impl Input + Print)) -> Result<(), Stopped> {
     let mut file = [0u8; PAST_LIMIT];
-    let n =
-        standard::input(rt, &mut file).map_err(|error| failed(b"standard input", &error))?;
+    let n = standard::input(rt, &mut file).map_err(|error| failed(b"standard input", &error))?;
     let mut out = [0u8; Listing::ROOM];
     let written = listing::positions(&file[..n], &mut out);
     rt.write_all(&out[..written])
