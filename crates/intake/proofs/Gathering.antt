@@ -17,7 +17,6 @@ use Rattle.watch.specs.declared.Watch.{Watch}
 use Rattle.watch.specs.Watches.{watch_on}
 use Rattle.typed.specs.declared.roster.Roster.{Roster}
 use Rattle.typed.specs.declared.roster.Text.{Text}
-use Rattle.typed.specs.declared.roster.Wrong.{Wrong}
 use Rattle.typed.specs.Rosters.{ended, words_from, no_word, wrong_among, wrong_typed, told_in, begun, closed, read_on, wrong_in}
 use Rattle.typed.specs.Texts.{roster_in, watch_in, text_begun, text_on}
 use Rattle.typed.proofs.Rosters.{pieces}
