@@ -8,7 +8,6 @@ ghost use Rattle.building.specs.Numbering.{after, through, numbered_from, ToNumb
 
 use crate::numbering::Numbering;
 use batches::records;
-use controls::tally;
 use field::place;
 use field::place::Record;
 use paper::record::Tally;
@@ -30,7 +29,7 @@ pub fn own(dst: &mut [u8], tray: &[u8], before: Numbering) -> Run
         × (result.numbering ≡ through before (take result.records (bodies tray.now))) }
 {
     let mut numbering = before;
-    let mut tally = tally::NONE;
+    let mut tally = Tally::NONE;
     let all = tray.len() / Tray::RECORD;
     for records in 0..all {
         let body = tray::body_at(tray, records);

@@ -9,6 +9,7 @@ use crate::numbering::Numbering;
 use batches::records;
 use controls::tally;
 use field::place::Record;
+use paper::record::Tally;
 use tray::Tray;
 
 pub fn write(out: &mut [u8], header: &[u8], tray: &[u8])
@@ -21,7 +22,7 @@ pub fn write(out: &mut [u8], header: &[u8], tray: &[u8])
     let mut from = loose.records * Tray::RECORD;
     let mut at = (loose.records + 1) * Record::LENGTH;
     let mut numbering = loose.numbering;
-    let mut closed = tally::NONE;
+    let mut closed = Tally::NONE;
     // a batch has no size of its own by which a `for` could step
     while from < tray.len() {
         let batch = batch::write(&mut out[at..], &tray[from..], numbering);

@@ -7,13 +7,6 @@ use field::place::Record;
 use field::{individual, kind};
 use paper::record::Tally;
 
-pub const NONE: Tally = Tally {
-    records: 0,
-    destinations: 0,
-    debits: 0,
-    credits: 0,
-};
-
 // An amount on the side where it counts, nothing on the other.
 fn on_side(counts: bool, amount: u64) -> u64
     ensures { (result ≡ cond counts amount 0) × (result ≤ amount) }

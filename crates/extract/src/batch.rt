@@ -6,7 +6,6 @@ ghost use Rattle.batches.specs.Blocks.{own_of, block, Batched};
 ghost use Rattle.extract.specs.Blocks.{ToCopy};
 
 use batches::records;
-use controls::tally;
 use field::place;
 use field::place::Record;
 use paper::record::Tally;
@@ -24,7 +23,7 @@ fn own(dst: &mut [u8], file: &[u8], places: &[u16]) -> Batch
     ensures { Batched (own_of (chosen file.now places.now)) (own_of (chosen file.now places.now))
         dst.old dst.new result.records result.tally }
 {
-    let mut tally = tally::NONE;
+    let mut tally = Tally::NONE;
     for (i, place) in places.iter().enumerate() {
         let rec = place::record_at(file, *place as usize);
         if batches::opens(rec) {

@@ -9,6 +9,7 @@ use batches::records;
 use controls::tally;
 use field::place;
 use field::place::Record;
+use paper::record::Tally;
 use paper::rules::Currency;
 
 pub fn write(out: &mut [u8], currency: Currency, entity: u64, file: &[u8], places: &[u16])
@@ -23,7 +24,7 @@ pub fn write(out: &mut [u8], currency: Currency, entity: u64, file: &[u8], place
     );
     let mut at = Record::LENGTH;
     let mut number: u64 = 0;
-    let mut closed = tally::NONE;
+    let mut closed = Tally::NONE;
     let mut i: usize = 0;
     // a turn takes the places of a whole batch, so that no `for` goes over them
     while i < places.len() {

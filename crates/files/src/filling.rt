@@ -30,6 +30,7 @@ pub(crate) fn fill(from: &mut impl Read, buf: &mut [u8]) -> io::Result<usize>
     ensures { ReadsAtMost result buf.new }
 {
     let mut done: usize = 0;
+    // no `for`: a turn goes on by as much as was read
     while done < buf.len() {
         let more = read_once(from, &mut buf[done..])?;
         if more == 0 {

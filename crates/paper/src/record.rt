@@ -15,7 +15,7 @@ pub enum Kind {
     BatchControl,
     // 9
     FileControl,
-    // none of them
+    // none of them; no Option, since the sources order every record by its kind, and a match reads plainer with one level
     Other,
 }
 
@@ -30,7 +30,7 @@ pub enum Code {
     Reversal,
     // 31: the rejection of one
     ReversalRejection,
-    // none of them
+    // none of them; no Option, for the same reason
     Unknown,
 }
 
@@ -62,4 +62,14 @@ pub struct Tally {
     pub debits: u64,
     // amounts of 32 and 31
     pub credits: u64,
+}
+
+impl Tally {
+    // Before the first record.
+    pub const NONE: Tally = Tally {
+        records: 0,
+        destinations: 0,
+        debits: 0,
+        credits: 0,
+    };
 }

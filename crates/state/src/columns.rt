@@ -79,7 +79,7 @@ pub fn batch(kind: Kind, batch: Tally, entry: Entry) -> Tally
     ensures { result ≡ batch_by kind batch entry }
 {
     if kind::opens_batch(kind) {
-        return tally::NONE;
+        return Tally::NONE;
     }
     if kind::is_individual(kind) {
         let code = entry.code;

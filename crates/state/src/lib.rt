@@ -5,7 +5,6 @@ ghost use Rattle.std.specs.Prelude.{◌≡◌, ◌^◌, ◌<◌};
 ghost use Rattle.paper.specs.Reading.{flag};
 ghost use Rattle.state.specs.States.{RoomToCount, after_by, past_by};
 
-use controls::tally;
 use entries::individual::Entry;
 use field::place::Record;
 use paper::record::{Before, Kind, Tally};
@@ -52,8 +51,8 @@ impl State {
         highest: 0,
         fresh: 0,
         batches: 0,
-        batch: tally::NONE,
-        closed: tally::NONE,
+        batch: Tally::NONE,
+        closed: Tally::NONE,
     };
 
     // After a record of a kind without fault; numbers are known to be new up to `fresh`.
