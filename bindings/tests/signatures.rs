@@ -4,7 +4,7 @@
 
 mod declarations;
 
-use declarations::{around, faults, header_constants, of_calls, of_export, of_header};
+use declarations::{faults, header_constants, of_calls, of_export, of_header};
 use declarations::{python_constants, rust_constants, value, Constants, Declarations};
 use std::collections::{BTreeMap, BTreeSet};
 use std::fs;
@@ -128,9 +128,11 @@ fn export_constants(constants: &Constants) -> Constants {
     });
     let answers = file("crates/paper/src/answer.rt");
     let refusals = answers.lines().filter_map(|line| {
-        let [_, fault, number] = around(line, "Fault::", " => ")?;
-        let number = number.trim_end_matches(',').to_string();
-        Some((format!("REFUSED_{}", fault.to_uppercase()), number))
+        let (fault, number) = line.trim().strip_suffix(',')?.split_once(" = ")?;
+        Some((
+            format!("REFUSED_{}", fault.to_uppercase()),
+            number.to_string(),
+        ))
     });
     shared.into_iter().chain(figures).chain(refusals).collect()
 }

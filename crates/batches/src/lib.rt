@@ -8,6 +8,7 @@ ghost use Rattle.batches.specs.Blocks.{with_record};
 
 use controls::tally;
 use field::kind;
+use field::place::Record;
 use paper::record::{Kind, Tally};
 
 pub mod records;
@@ -21,8 +22,7 @@ pub fn opens(rec: &[u8]) -> bool
 
 // A record counted with those before it.
 #[tactic(auto, unfolding(crate::specs::Blocks::with_record))]
-pub fn count(tally: Tally, rec: &[u8]) -> Tally
-    requires rec_len { length rec.now ≡ 94 }
+pub fn count(tally: Tally, rec: &[u8; Record::LENGTH]) -> Tally
     requires below { Below (10 ^ 18) tally }
     ensures { result ≡ with_record (kind_of rec.now) tally rec.now }
 {

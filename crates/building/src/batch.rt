@@ -9,6 +9,7 @@ ghost use Rattle.building.specs.Numbering.{after, through, numbered_from, ToNumb
 use crate::numbering::Numbering;
 use batches::records;
 use controls::tally;
+use field::place;
 use field::place::Record;
 use paper::record::Tally;
 use tray::Tray;
@@ -43,7 +44,7 @@ pub fn own(dst: &mut [u8], tray: &[u8], before: Numbering) -> Run
         let at = records * Record::LENGTH;
         let end = at + Record::LENGTH;
         numbering = numbering.write(&mut dst[at..end], body);
-        tally = batches::count(tally, &dst[at..end]);
+        tally = batches::count(tally, place::whole(&dst[at..end]));
     }
     Run {
         records: all,

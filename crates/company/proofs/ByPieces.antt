@@ -19,7 +19,7 @@ use Rattle.paper.proofs.Tests.{T_of, and_r}
 use Rattle.tray.specs.Seen.{most_seen}
 use Rattle.company.specs.declared.pieces.Pieces.{Pieces}
 use Rattle.company.specs.Files.{details_of, closing_of, details_fault, amounts_in, closing_good, closing_fault}
-use Rattle.company.specs.Sums.{kept, judged, sum_in}
+use Rattle.company.specs.Sums.{kept, sum_in}
 use Rattle.company.specs.Seen.{company_records, company_begun, JudgedSo, CompanyWhole, CompanySeen, CompanyMore, counted_on, judgeable, CompanyOn}
 use Rattle.company.proofs.Kept.{kept_on, closing_kept}
 use Rattle.company.proofs.Sizes.{closing_long}
@@ -108,21 +108,21 @@ module _ (currency : Currency) (lo : List ℕ) (p r : Pieces) (file piece : List
     (k : p.records ≡ length file / 250) (j : JudgedSo currency lo p file) where
   -- the piece was judged
   module _ (h : 250 ≤ length piece) (m : CompanyMore p lo piece r) where
-    going_on : judged r.going ≡ details_fault currency lo 0 (company_records (file ++ piece))
+    going_on : said r.going ≡ details_fault currency lo 0 (company_records (file ++ piece))
     going_on =
-        m.going ∙ ap (λ (c : Currency). and_then (judged p.going) (details_fault c lo p.records (company_records piece))) money
+        m.going ∙ ap (λ (c : Currency). and_then (said p.going) (details_fault c lo p.records (company_records piece))) money
         ∙ first_of_both currency lo file (company_records piece) k j.going
         ∙ ap (details_fault currency lo 0) (sym (records_on file piece none))
 
     -- the sum counts where no record is at fault
-    sum_so : (ds : List (List ℕ)) → judged p.going ≡ accepted → kept (sum_in p.going + amounts_in ds) ≡ kept (amounts_in (company_records file ++ ds))
+    sum_so : (ds : List (List ℕ)) → said p.going ≡ accepted → kept (sum_in p.going + amounts_in ds) ≡ kept (amounts_in (company_records file ++ ds))
     sum_so ds e =
         ap (λ (n : ℕ). kept (n + amounts_in ds)) (j.sum e) ∙ kept_on (amounts_in (company_records file)) (amounts_in ds)
         ∙ ap kept (sym (amounts_joined (company_records file) ds))
 
-    sum_on : judged r.going ≡ accepted → sum_in r.going ≡ kept (amounts_in (company_records (file ++ piece)))
+    sum_on : said r.going ≡ accepted → sum_in r.going ≡ kept (amounts_in (company_records (file ++ piece)))
     sum_on e =
-        let before = both_accept (judged p.going) (details_fault p.currency lo p.records (company_records piece)) (sym m.going ∙ e) in
+        let before = both_accept (said p.going) (details_fault p.currency lo p.records (company_records piece)) (sym m.going ∙ e) in
         m.sum e ∙ sum_so (company_records piece) before.0 ∙ ap (λ (rs : List (List ℕ)). kept (amounts_in rs)) (sym (records_on file piece none))
 
     abbrev closes : ℕ → ℕ → Said
@@ -133,15 +133,15 @@ module _ (currency : Currency) (lo : List ℕ) (p r : Pieces) (file piece : List
     ending_on =
         let ds = details_of piece in
         let all = company_records file ++ ds in
-        let before = and_then (judged p.going) (details_fault p.currency lo p.records ds) in
+        let before = and_then (said p.going) (details_fault p.currency lo p.records ds) in
         let n : p.records + length ds ≡ length all = ap (λ (x : ℕ). x + length ds) (k ∙ sym (length_parts 250 (length file / 250) file)) ∙ sym (length-append (company_records file) ds) in
         m.ending
         ∙ then_alike before (λ e.
         ap (λ (b : Bool). require b 17 (p.records + length ds))
-        (as_kept (p.records + length ds) (sum_in p.going + amounts_in ds) (amounts_in all) (closing_of piece) (closing_long piece h) (sum_so ds (both_accept (judged p.going) (details_fault p.currency lo p.records ds) e).0))
+        (as_kept (p.records + length ds) (sum_in p.going + amounts_in ds) (amounts_in all) (closing_of piece) (closing_long piece h) (sum_so ds (both_accept (said p.going) (details_fault p.currency lo p.records ds) e).0))
         ∙ ap (λ (x : ℕ). closes x (amounts_in all)) n)
         ∙ ap (λ (x : Said). and_then x (closes (length all) (amounts_in all)))
-        (ap (λ (c : Currency). and_then (judged p.going) (details_fault c lo p.records ds)) money ∙ first_of_both currency lo file ds k j.going)
+        (ap (λ (c : Currency). and_then (said p.going) (details_fault c lo p.records ds)) money ∙ first_of_both currency lo file ds k j.going)
         ∙ rw (details_on file piece none h, closing_on file piece none h) refl
 
     further : JudgedSo currency lo r (file ++ piece)

@@ -9,9 +9,9 @@ use borrow.Author.Tests.{lt-ltb, le-ltb, lt-leb, leb-true, leb-false}
 use lib.Dec.{leb, ltb, eqb}
 use lib.ListN.{length}
 use Rattle.paper.specs.declared.rules.Currency.{Currency}
-use Rattle.std.specs.Prelude.{Some, None, Err}
+use Rattle.std.specs.Prelude.{Some, None}
 use Rattle.paper.specs.declared.answer.Refusal.{Refusal}
-use Rattle.paper.specs.Answers.{Said, accepted, refused, said, and_then, require}
+use Rattle.paper.specs.Answers.{Said, accepted, refused, said, refused_by, and_then, require}
 use Rattle.paper.specs.Buffers.{room_for, written}
 use Rattle.paper.proofs.Refusals.{and_then_assoc, required}
 use Rattle.tray.specs.Seen.{most_seen}
@@ -52,7 +52,7 @@ whole_so n = go (leb 250 n) refl
 -- what is told by what is known after its pieces is said of the whole
 -- (not so with a file without end taken for one that has ended, or with 206 before the closing record is judged)
 pub company_told : (currency : Currency) (lo file : List ℕ) (p : Pieces) → CompanySeen currency lo p file → (r : Refusal) → CompanyTells p lo (Some r)
-    → said (Err r) ≡ and_then (company_answer currency lo file) (refused 206 0)
+    → refused_by r ≡ and_then (company_answer currency lo file) (refused 206 0)
 unfolding company_answer
 company_told currency lo file p s r t =
     let w = s.whole t.0 in

@@ -7,17 +7,17 @@ use mathlib.Core.Path.{◌≡◌, refl, sym, ap, ap₂, ◌∙◌}
 use Rattle.paper.specs.declared.rules.Currency.{Currency}
 use Rattle.std.specs.Prelude.{Option, Some, None, Result, Ok, Err}
 use Rattle.paper.specs.declared.answer.Refusal.{Refusal}
-use Rattle.paper.specs.Answers.{Answer, accepted}
+use Rattle.paper.specs.Answers.{Answer, accepted, said}
 use Rattle.paper.proofs.Refusals.{refused_not}
 use Rattle.paper.proofs.Numbers.{said_once}
 use Rattle.tray.specs.Seen.{most_seen}
 use Rattle.tray.proofs.Once.{either}
 use Rattle.company.specs.declared.pieces.Pieces.{Pieces}
 use Rattle.company.specs.Seen.{CompanyMore, judgeable, CompanyOn, CompanyTells}
-use Rattle.company.specs.Sums.{judged, sum_in}
+use Rattle.company.specs.Sums.{sum_in}
 
 -- a sum, or a fault
-judged_once : (r q : Result ℕ Refusal) → judged r ≡ judged q → (judged r ≡ accepted → sum_in r ≡ sum_in q) → r ≡ q
+judged_once : (r q : Result ℕ Refusal) → said r ≡ said q → (said r ≡ accepted → sum_in r ≡ sum_in q) → r ≡ q
 judged_once (Ok n) (Ok m) a s = ap Ok (s refl)
 judged_once (Ok n) (Err q) a s = absurd (refused_not (sym a))
 judged_once (Err r) (Ok m) a s = absurd (refused_not a)

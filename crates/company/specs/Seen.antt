@@ -1,13 +1,13 @@
 -- A company's file looked at in pieces.
-use Rattle.std.specs.Prelude.{ℕ, ◌+◌, ◌/◌, ◌%◌, ◌≤◌, ◌<◌, Bool, true, false, ◌&&◌, List, ◌≡◌, Option, Some, None, Ok, Err, leb, eqb, ltb, length}
+use Rattle.std.specs.Prelude.{ℕ, ◌+◌, ◌/◌, ◌%◌, ◌≤◌, ◌<◌, Bool, true, false, ◌&&◌, List, ◌≡◌, Option, Some, None, Ok, leb, eqb, ltb, length}
 use Rattle.paper.specs.declared.rules.Currency.{Currency}
 use Rattle.paper.specs.declared.answer.Refusal.{Refusal}
-use Rattle.paper.specs.Answers.{Said, said, accepted, refused, and_then, require}
+use Rattle.paper.specs.Answers.{Said, said, refused_by, accepted, refused, and_then, require}
 use Rattle.paper.specs.Reading.{parts}
 use Rattle.tray.specs.Seen.{most_seen}
 use Rattle.company.specs.declared.pieces.Pieces.{Pieces}
 use Rattle.company.specs.Files.{details_of, closing_of, lo_good, details_fault, amounts_in, closing_good, closing_fault}
-use Rattle.company.specs.Sums.{kept, judged, sum_in}
+use Rattle.company.specs.Sums.{kept, sum_in}
 
 -- all whole records, that which may close the file among them
 abbrev pub company_records : List ℕ → List (List ℕ)
@@ -21,8 +21,8 @@ company_begun currency = record { currency = currency; going = Ok 0; ending = Ok
 
 -- under an LO body of 94 bytes this was found: each record judged as a detail; and the last taken for the closing record
 pub record JudgedSo (currency : Currency) (lo : List ℕ) (p : Pieces) (file : List ℕ) : Type 0 where
-  pub going : judged p.going ≡ details_fault currency lo 0 (company_records file)
-  pub sum : judged p.going ≡ accepted → sum_in p.going ≡ kept (amounts_in (company_records file))
+  pub going : said p.going ≡ details_fault currency lo 0 (company_records file)
+  pub sum : said p.going ≡ accepted → sum_in p.going ≡ kept (amounts_in (company_records file))
   pub ending : 250 ≤ length file → said p.ending ≡ and_then (details_fault currency lo 0 (details_of file)) (closing_fault file)
 
 pub record CompanyWhole (currency : Currency) (lo : List ℕ) (p : Pieces) (file : List ℕ) : Type 0 where
@@ -41,10 +41,10 @@ pub record CompanySeen (currency : Currency) (lo : List ℕ) (p : Pieces) (file 
 -- it was judged: its records go on from those before it
 pub record CompanyMore (p : Pieces) (lo piece : List ℕ) (r : Pieces) : Type 0 where
   pub money : r.currency ≡ p.currency
-  pub going : judged r.going ≡ and_then (judged p.going) (details_fault p.currency lo p.records (company_records piece))
-  pub sum : judged r.going ≡ accepted → sum_in r.going ≡ kept (sum_in p.going + amounts_in (company_records piece))
+  pub going : said r.going ≡ and_then (said p.going) (details_fault p.currency lo p.records (company_records piece))
+  pub sum : said r.going ≡ accepted → sum_in r.going ≡ kept (sum_in p.going + amounts_in (company_records piece))
   pub ending : said r.ending
-      ≡ and_then (and_then (judged p.going) (details_fault p.currency lo p.records (details_of piece)))
+      ≡ and_then (and_then (said p.going) (details_fault p.currency lo p.records (details_of piece)))
       (require (closing_good (p.records + length (details_of piece)) (sum_in p.going + amounts_in (details_of piece)) (closing_of piece)) 17 (p.records + length (details_of piece)))
   pub records : r.records ≡ p.records + length piece / 250
   pub left : r.left ≡ length piece % 250
@@ -80,5 +80,5 @@ long_company p lo =
 
 -- it is given of a file that has an end, and of no other
 abbrev pub CompanyTells : Pieces → List ℕ → Option Refusal → Type 0
-CompanyTells p lo (Some r) = (p.records ≤ most_seen) × (said (Err r) ≡ long_company p lo)
+CompanyTells p lo (Some r) = (p.records ≤ most_seen) × (refused_by r ≡ long_company p lo)
 CompanyTells p lo None = most_seen < p.records

@@ -6,7 +6,7 @@ ghost use Rattle.paper.specs.Answers.{said, accepted, and_then, require};
 ghost use Rattle.paper.specs.Buffers.{told, over};
 ghost use Rattle.paper.specs.Reading.{parts};
 ghost use Rattle.company.specs.Files.{lo_good, details_fault, amounts_in, closing_good, company_answer, orders_of, tray_of, company};
-ghost use Rattle.company.specs.Sums.{kept, judged, sum_in};
+ghost use Rattle.company.specs.Sums.{kept, sum_in};
 
 use field::date;
 use field::place::Record;
@@ -48,8 +48,8 @@ fn judge(
     sum: u64,
 ) -> Result<u64, Refusal>
     requires { (length lo.now ≡ 94) × (details * 250 ≤ length file.now) × (from ≤ 2 ^ 61) }
-    ensures first_fault { judged result ≡ details_fault currency lo.now from (parts 250 details file.now) }
-    ensures total { judged result ≡ accepted → sum_in result ≡ kept (sum + amounts_in (parts 250 details file.now)) }
+    ensures first_fault { said result ≡ details_fault currency lo.now from (parts 250 details file.now) }
+    ensures total { said result ≡ accepted → sum_in result ≡ kept (sum + amounts_in (parts 250 details file.now)) }
 {
     let dated = date::date(lo, 70, 75);
     let mut total = closing::added(sum, 0);

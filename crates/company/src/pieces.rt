@@ -4,7 +4,7 @@ ghost use Rattle.paper.specs.Answers.{said, accepted, and_then, require};
 ghost use Rattle.paper.specs.Reading.{parts};
 ghost use Rattle.tray.specs.Seen.{most_seen};
 ghost use Rattle.company.specs.Files.{details_fault, amounts_in, closing_good};
-ghost use Rattle.company.specs.Sums.{kept, judged, sum_in};
+ghost use Rattle.company.specs.Sums.{kept, sum_in};
 ghost use Rattle.company.specs.Seen.{company_begun, CompanyMore, counted_on, CompanyOn, CompanyTells};
 
 use crate::{Company, close, judge, lo_good};
@@ -38,8 +38,8 @@ fn judge_on(
     from: usize,
 ) -> Result<u64, Refusal>
     requires { (length lo.now ≡ 94) × (details * 250 ≤ length file.now) × (from ≤ 2 ^ 61) }
-    ensures first_fault { judged result ≡ and_then (judged before) (details_fault currency lo.now from (parts 250 details file.now)) }
-    ensures total { judged result ≡ accepted → sum_in result ≡ kept (sum_in before + amounts_in (parts 250 details file.now)) }
+    ensures first_fault { said result ≡ and_then (said before) (details_fault currency lo.now from (parts 250 details file.now)) }
+    ensures total { said result ≡ accepted → sum_in result ≡ kept (sum_in before + amounts_in (parts 250 details file.now)) }
 {
     judge(currency, lo, file, details, from, before?)
 }
@@ -48,7 +48,7 @@ fn judge_on(
 #[tactic(auto, using(paper::proofs::Chained::chained))]
 fn close_on(before: Result<u64, Refusal>, rec: &[u8], details: usize) -> Result<(), Refusal>
     requires { length rec.now ≡ 250 }
-    ensures { said result ≡ and_then (judged before) (require (closing_good details (sum_in before) rec.now) 17 details) }
+    ensures { said result ≡ and_then (said before) (require (closing_good details (sum_in before) rec.now) 17 details) }
 {
     close(rec, details, before?)
 }

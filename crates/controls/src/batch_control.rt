@@ -5,14 +5,17 @@ ghost use Rattle.verdicts.specs.Verdicts.{check_of};
 
 use crate::control;
 use characters::{number, text};
+use field::place::Record;
 use paper::answer::Fault;
 use paper::record::Tally;
 use verdicts::verdict::need;
 
 #[tactic(auto, using(verdicts::proofs::Chain::chain), unfolding(paper::specs::Controls::batch_control))]
-pub fn judge(header: &[u8], tally: Tally, rec: &[u8]) -> Result<(), Fault>
-    requires header_len { length header.now ≡ 94 }
-    requires rec_len { length rec.now ≡ 94 }
+pub fn judge(
+    header: &[u8; Record::LENGTH],
+    tally: Tally,
+    rec: &[u8; Record::LENGTH],
+) -> Result<(), Fault>
     ensures { check_of result ≡ batch_control header.now tally rec.now }
 {
     need(text::same(rec, 2, 4, header, 2, 4), Fault::Format)?;

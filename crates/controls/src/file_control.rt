@@ -5,6 +5,7 @@ ghost use Rattle.verdicts.specs.Verdicts.{check_of};
 
 use crate::control;
 use characters::number;
+use field::place::Record;
 use paper::answer::Fault;
 use paper::record::Tally;
 use verdicts::verdict::need;
@@ -20,9 +21,8 @@ pub fn blocks(all: u64) -> u64
 
 // Of a file of `all` records, this one included.
 #[tactic(auto, using(verdicts::proofs::Chain::chain), unfolding(paper::specs::Controls::file_control))]
-pub fn judge(all: u64, batches: u64, tally: Tally, rec: &[u8]) -> Result<(), Fault>
+pub fn judge(all: u64, batches: u64, tally: Tally, rec: &[u8; Record::LENGTH]) -> Result<(), Fault>
     requires all_bound { all ≤ 10000 }
-    requires rec_len { length rec.now ≡ 94 }
     ensures { check_of result ≡ file_control all batches tally rec.now }
 {
     need(number::spells(rec, 2, 7, batches), Fault::Format)?;

@@ -3,6 +3,7 @@ ghost use Rattle.std.specs.Prelude.{◌≡◌, cond, ◌+◌, ◌^◌, ◌≤◌
 ghost use Rattle.paper.specs.Controls.{plus, with_individual, with_additional};
 ghost use Rattle.controls.specs.Bounds.{Below};
 
+use field::place::Record;
 use field::{individual, kind};
 use paper::record::Tally;
 
@@ -42,8 +43,7 @@ pub fn with_entry(tally: Tally, destination: u64, debit: bool, amount: u64) -> T
 
 // What is no code of the paper's counts on neither side.
 #[tactic(auto, using(crate::proofs::Sides::sides), unfolding(paper::specs::Controls::with_individual))]
-pub fn with_individual(tally: Tally, rec: &[u8]) -> Tally
-    requires rec_len { length rec.now ≡ 94 }
+pub fn with_individual(tally: Tally, rec: &[u8; Record::LENGTH]) -> Tally
     requires below { Below (10 ^ 18) tally }
     ensures { result ≡ with_individual tally rec.now }
 {

@@ -4,13 +4,13 @@ use Rattle.paper.specs.Answers.{Said, accepted, refused}
 use Rattle.files.specs.declared.ending.Stopped.{Stopped}
 use Rattle.files.specs.declared.ending.Stopped.TheVariants.{Refused, Undone}
 
-abbrev pub Ended : Type 0
-Ended = Result (Unit {0}) Stopped
+abbrev pub Ending : Type 0
+Ending = Result (Unit {0}) Stopped
 
-unfoldable pub ended_by : Said → Ended
+unfoldable pub ended_by : Said → Ending
 ended_by accepted = Ok tt
 ended_by (refused n place) = Err Refused
 
 -- so, unless it could not be done
-abbrev pub Ends : Ended → Ended → Type 0
+abbrev pub Ends : Ending → Ending → Type 0
 Ends wanted r = (r ≡ Err Undone → ⊥) → r ≡ wanted

@@ -2,7 +2,7 @@
 #![tactic(auto, using(crate::proofs::Printed::printed))]
 
 ghost use Rattle.std.specs.Prelude.{Ok, Err, ◌≡◌, ◌≤◌, length};
-ghost use Rattle.paper.specs.Answers.{said};
+ghost use Rattle.paper.specs.Answers.{said, refused_by};
 ghost use Rattle.desk.specs.Calls.{Reachable};
 ghost use Rattle.counter.specs.Ending.{ended_by, Ends};
 
@@ -46,7 +46,7 @@ fn word(rt: &impl World, refusal: Refusal, roll: &Roll) -> Result<(), Stopped>
 }
 
 pub(crate) fn opening(rt: &impl World, refusal: Refusal, roll: &Roll) -> Result<(), Stopped>
-    ensures { Ends (ended_by (said (Err refusal))) result }
+    ensures { Ends (ended_by (refused_by refusal)) result }
 {
     let mut line = [0u8; Listing::LINE];
     let n = answers::opening(Err(refusal), &mut line);
@@ -67,7 +67,7 @@ pub(crate) fn answer(rt: &impl World, answer: Result<(), Refusal>) -> Result<(),
 // A refusal by itself.
 #[tactic(auto, using(crate::proofs::Endings::stops))]
 pub(crate) fn refusal(rt: &impl World, refusal: Refusal) -> Stopped
-    ensures { Ends (ended_by (said (Err refusal))) (Err result) }
+    ensures { Ends (ended_by (refused_by refusal)) (Err result) }
 {
     answer(rt, Err(refusal)).unwrap_err()
 }

@@ -7,7 +7,7 @@ use lib.ListN.{get_or, set}
 use Rattle.paper.specs.declared.ledger.Cell.{Cell}
 use Rattle.paper.specs.declared.rules.Currency.{Currency}
 use Rattle.paper.specs.declared.rules.Currency.TheVariants.{Pesos}
-use Rattle.paper.specs.Answers.{Said, accepted, refused, said, and_then, require}
+use Rattle.paper.specs.Answers.{Said, accepted, refused, said, refused_by, and_then, require}
 use Rattle.paper.specs.Reading.{records_of, reading}
 use Rattle.paper.specs.Postings.{own_postings}
 use Rattle.paper.proofs.Places.{postings_own}
@@ -60,12 +60,12 @@ pub ruleset opened = (opened_accepted, opened_refused)
 
 module _ (s : paper.Session) (file : List ℕ) where
   -- refused by the reading, or by 209
-  pub by_reading : (x : Refusal) → said (Err x) ≡ reading s.rules file → reply (said (Err x)) s ≡ presenting s file
+  pub by_reading : (x : Refusal) → refused_by x ≡ reading s.rules file → reply (refused_by x) s ≡ presenting s file
   unfolding presenting session_after answer_to and_then
   by_reading x h = rw (← h) refl
 
   module _ (reads : accepted ≡ reading s.rules file) {key : ℕ} (k : key ≡ key_of file) where
-    pub by_identifier : (x : Refusal) → said (Err x) ≡ require (not (get_or s.used key false)) 209 0 → reply (said (Err x)) s ≡ presenting s file
+    pub by_identifier : (x : Refusal) → refused_by x ≡ require (not (get_or s.used key false)) 209 0 → reply (refused_by x) s ≡ presenting s file
     unfolding presenting session_after answer_to and_then
     by_identifier x h = rw (← reads, ← k, ← h) refl
 

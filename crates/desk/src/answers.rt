@@ -7,7 +7,7 @@ use paper::answer::{Fault, Refusal};
 use paper::rules::{Reader, Rules, Terms};
 
 // By the house, or at a member's desk.
-#[tactic(auto, using(paper::proofs::Chained::chained), unfolding(reading::specs::Said::reading_says))]
+#[tactic(auto, using(paper::proofs::Chained::chained))]
 pub fn read_by(reader: Reader, rules: &Rules, file: &[u8]) -> Result<(), Refusal>
     ensures { said result ≡ reading_by record { session = rules.now; reader = reader } file.now }
 {

@@ -5,14 +5,13 @@ ghost use Rattle.verdicts.specs.Verdicts.{check_of};
 
 use characters::{number, text};
 use field::kind;
+use field::place::Record;
 use paper::answer::Fault;
 use verdicts::verdict::need;
 
 // After 36 or 31.
 #[tactic(auto, using(verdicts::proofs::Chain::chain), unfolding(paper::specs::Records::additional99))]
-pub fn judge99(individual: &[u8], rec: &[u8]) -> Result<(), Fault>
-    requires individual_len { length individual.now ≡ 94 }
-    requires rec_len { length rec.now ≡ 94 }
+pub fn judge99(individual: &[u8; Record::LENGTH], rec: &[u8; Record::LENGTH]) -> Result<(), Fault>
     ensures { check_of result ≡ additional99 individual.now rec.now }
 {
     let motive = text::reads(rec, 4, 4, b"R") & number::digits(rec, 5, 6);
@@ -29,9 +28,7 @@ pub fn judge99(individual: &[u8], rec: &[u8]) -> Result<(), Fault>
 
 // After the others.
 #[tactic(auto, using(verdicts::proofs::Chain::chain), unfolding(paper::specs::Records::additional05))]
-pub fn judge05(individual: &[u8], rec: &[u8]) -> Result<(), Fault>
-    requires individual_len { length individual.now ≡ 94 }
-    requires rec_len { length rec.now ≡ 94 }
+pub fn judge05(individual: &[u8; Record::LENGTH], rec: &[u8; Record::LENGTH]) -> Result<(), Fault>
     ensures { check_of result ≡ additional05 individual.now rec.now }
 {
     need(text::reads(rec, 2, 3, b"05"), Fault::Additional)?;
@@ -43,9 +40,7 @@ pub fn judge05(individual: &[u8], rec: &[u8]) -> Result<(), Fault>
 }
 
 #[tactic(auto, using(verdicts::proofs::Chain::chain), unfolding(paper::specs::Records::additional))]
-pub fn judge(individual: &[u8], rec: &[u8]) -> Result<(), Fault>
-    requires individual_len { length individual.now ≡ 94 }
-    requires rec_len { length rec.now ≡ 94 }
+pub fn judge(individual: &[u8; Record::LENGTH], rec: &[u8; Record::LENGTH]) -> Result<(), Fault>
     ensures { check_of result ≡ additional individual.now rec.now }
 {
     if kind::rejects(kind::code(individual)) {

@@ -9,6 +9,7 @@ ghost use Rattle.verdicts.specs.Verdicts.{check_of, under};
 ghost use Rattle.entries.specs.Judging.{entry_of, flag_rules, counter_rules, closing_rules};
 
 use characters::{number, text, word};
+use field::place::Record;
 use field::{block, entity, individual, kind};
 use paper::answer::Fault;
 use paper::record::Code;
@@ -39,8 +40,7 @@ impl Entry {
 // One past the largest number of four digits.
 const FOUR_DIGITS: u64 = 10000;
 
-pub fn account_good(rec: &[u8]) -> bool
-    requires { length rec.now ≡ 94 }
+pub fn account_good(rec: &[u8; Record::LENGTH]) -> bool
     ensures { result ≡ account_good rec.now }
 {
     number::digits(rec, 13, 29)
@@ -48,8 +48,7 @@ pub fn account_good(rec: &[u8]) -> bool
 
 // The same with its check digit; the reading does not ask it yet. Sixteen digits are one step for the machine, so that two of the three zeros are asked twice.
 // The front word serves the zeros and the block.
-pub fn account_checked(rec: &[u8]) -> bool
-    requires { length rec.now ≡ 94 }
+pub fn account_checked(rec: &[u8; Record::LENGTH]) -> bool
     ensures { result ≡ account_checked rec.now }
 {
     if !number::digits(rec, 14, 29) {
@@ -60,16 +59,14 @@ pub fn account_checked(rec: &[u8]) -> bool
     word::three_zeros(front) & block::good(front, back, rec[28])
 }
 
-pub fn information_good(rec: &[u8]) -> bool
-    requires { length rec.now ≡ 94 }
+pub fn information_good(rec: &[u8; Record::LENGTH]) -> bool
     ensures { result ≡ information_good rec.now }
 {
     text::reads(rec, 77, 78, b"00")
         | (text::reads(rec, 77, 78, b"01") & kind::takes01(kind::code(rec)))
 }
 
-pub fn flag_good(rec: &[u8]) -> bool
-    requires { length rec.now ≡ 94 }
+pub fn flag_good(rec: &[u8; Record::LENGTH]) -> bool
     ensures { result ≡ flag_good rec.now }
 {
     individual::flagged(rec) | (kind::is_order(kind::code(rec)) & text::reads(rec, 77, 78, b"00"))
@@ -101,8 +98,7 @@ fn destination(terms: Terms, n: u64) -> Result<(), Fault>
 }
 
 // Positions 4 to 11. Hands on entity and branch as one number.
-fn whereto(terms: Terms, rec: &[u8]) -> Result<u64, Fault>
-    requires { length rec.now ≡ 94 }
+fn whereto(terms: Terms, rec: &[u8; Record::LENGTH]) -> Result<u64, Fault>
     ensures says { check_of result ≡ destination (under terms.entry) (field rec.now 4 11) }
     ensures hands { IfOk result (λ n. n ≡ destination_field rec.now) }
 {
@@ -115,8 +111,7 @@ fn whereto(terms: Terms, rec: &[u8]) -> Result<u64, Fault>
 
 // Positions 30 to 39: ten digits that are not all zeros. Hands on the amount.
 #[tactic(auto, using(verdicts::proofs::Chain::chain, crate::proofs::Chains::some_amount))]
-fn amount(rec: &[u8]) -> Result<u64, Fault>
-    requires { length rec.now ≡ 94 }
+fn amount(rec: &[u8; Record::LENGTH]) -> Result<u64, Fault>
     ensures says { check_of result ≡ need (digits (field rec.now 30 39) && ltb 0 (amount_of rec.now)) 19 }
     ensures hands { IfOk result (λ n. n ≡ amount_of rec.now) }
 {
@@ -127,8 +122,7 @@ fn amount(rec: &[u8]) -> Result<u64, Fault>
 
 // Positions 2 to 54: the code, whereto, how much and for what. Hands on field 4-11 and the amount.
 #[tactic(auto, using(verdicts::proofs::Chain::chain), unfolding(paper::specs::Records::transfer))]
-fn transfer(terms: Terms, rec: &[u8]) -> Result<(u64, u64), Fault>
-    requires { length rec.now ≡ 94 }
+fn transfer(terms: Terms, rec: &[u8; Record::LENGTH]) -> Result<(u64, u64), Fault>
     ensures says { check_of result ≡ transfer (under terms.entry) rec.now }
     ensures hands { IfOk result (λ m. (m.0 ≡ destination_field rec.now) × (m.1 ≡ amount_of rec.now)) }
 {
@@ -143,8 +137,7 @@ fn transfer(terms: Terms, rec: &[u8]) -> Result<(u64, u64), Fault>
 
 // 1 goes with every code: asked before the code, it leaves one thing to foretell, whether an additional follows.
 #[tactic(auto, using(verdicts::proofs::Chain::chain), unfolding(crate::specs::Judging::flag_rules))]
-fn flag(rec: &[u8]) -> Result<(), Fault>
-    requires { length rec.now ≡ 94 }
+fn flag(rec: &[u8; Record::LENGTH]) -> Result<(), Fault>
     ensures { check_of result ≡ flag_rules rec.now }
 {
     if individual::flagged(rec) {
@@ -156,9 +149,11 @@ fn flag(rec: &[u8]) -> Result<(), Fault>
 
 // Positions 80 to 94, under the batch's header and after the number before. Hands on 88-94.
 #[tactic(auto, using(verdicts::proofs::Chain::chain), unfolding(crate::specs::Judging::counter_rules))]
-fn counter(header: &[u8], previous: u64, rec: &[u8]) -> Result<u64, Fault>
-    requires header_len { length header.now ≡ 94 }
-    requires rec_len { length rec.now ≡ 94 }
+fn counter(
+    header: &[u8; Record::LENGTH],
+    previous: u64,
+    rec: &[u8; Record::LENGTH],
+) -> Result<u64, Fault>
     ensures says { check_of result ≡ counter_rules header.now previous rec.now }
     ensures hands { IfOk result (λ counter. counter ≡ number_in rec.now) }
 {
@@ -172,9 +167,11 @@ fn counter(header: &[u8], previous: u64, rec: &[u8]) -> Result<u64, Fault>
 
 // Positions 55 to 94. Hands on 88-94.
 #[tactic(auto, using(verdicts::proofs::Chain::chain), unfolding(crate::specs::Judging::closing_rules))]
-fn closing(header: &[u8], previous: u64, rec: &[u8]) -> Result<u64, Fault>
-    requires header_len { length header.now ≡ 94 }
-    requires rec_len { length rec.now ≡ 94 }
+fn closing(
+    header: &[u8; Record::LENGTH],
+    previous: u64,
+    rec: &[u8; Record::LENGTH],
+) -> Result<u64, Fault>
     ensures says { check_of result ≡ closing_rules header.now previous rec.now }
     ensures hands { IfOk result (λ counter. counter ≡ number_in rec.now) }
 {
@@ -186,9 +183,12 @@ fn closing(header: &[u8], previous: u64, rec: &[u8]) -> Result<u64, Fault>
 
 // A record without fault hands on its numbers, each of them read once.
 #[tactic(auto, using(verdicts::proofs::Chain::chain, crate::proofs::Chains::in_parts), unfolding(crate::specs::Judging::entry_of))]
-pub fn judge(terms: Terms, header: &[u8], previous: u64, rec: &[u8]) -> Result<Entry, Fault>
-    requires header_len { length header.now ≡ 94 }
-    requires rec_len { length rec.now ≡ 94 }
+pub fn judge(
+    terms: Terms,
+    header: &[u8; Record::LENGTH],
+    previous: u64,
+    rec: &[u8; Record::LENGTH],
+) -> Result<Entry, Fault>
     ensures says { check_of result ≡ individual (under terms.entry) header.now previous rec.now }
     ensures hands { IfOk result (λ entry. entry ≡ entry_of rec.now) }
 {

@@ -1,5 +1,5 @@
 pub mod Once
-pub mod Opened
+pub mod Jobs
 pub mod PairLaws
 pub mod Days
 pub mod Texts

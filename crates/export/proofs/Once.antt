@@ -8,13 +8,12 @@ use native.Mathlib.Omega.{arith}
 use lib.IntN.{nat_abs}
 use lib.ListN.{length, get_or}
 use lib.Seq.{ext_get_or}
+use Rattle.std.specs.Prelude.{Ok, Err}
 use Rattle.paper.specs.declared.ledger.Cell.{Cell}
 use Rattle.paper.specs.Sessions.{zero_cell}
 use Rattle.paper.specs.declared.answer.Fault.{Fault}
 use Rattle.paper.specs.declared.answer.Fault.TheVariants.{Length, Format, Amount, Additional, Counter, Date, Reserved, Account, Reference, Information, Currency, Roster, Room, Tray, Entity, Identifier, Reason}
-use Rattle.paper.specs.declared.answer.Answer.{Answer}
-use Rattle.paper.specs.declared.answer.Answer.TheVariants.{Accepted, Refused}
-use Rattle.paper.specs.Answers.{said, number_of}
+use Rattle.paper.specs.Answers.{Answer, refusal, number_of, said}
 use Rattle.paper.proofs.Numbers.{own_number}
 use Rattle.export.specs.declared.Spoken.{Spoken}
 use Rattle.export.specs.Spoken.{Delivered, spoken_of}
@@ -42,10 +41,10 @@ not_zero Reason h = omega arith
 
 pub spoken_once : (n : ℕ) (a b : Answer) → spoken_of n (said a) ≡ spoken_of n (said b) → a ≡ b
 unfolding spoken_of
-spoken_once n Accepted Accepted h = refl
-spoken_once n Accepted (Refused g l) h = absurd (not_zero g (ap (λ (s : Spoken). s.number) h))
-spoken_once n (Refused f k) Accepted h = absurd (not_zero f (sym (ap (λ (s : Spoken). s.number) h)))
-spoken_once n (Refused f k) (Refused g l) h = ap₂ Refused (own_number f g (ap (λ (s : Spoken). s.number) h)) (ap (λ (s : Spoken). s.place) h)
+spoken_once n (Ok x) (Ok y) h = refl
+spoken_once n (Ok x) (Err r) h = absurd (not_zero r.fault (ap (λ (s : Spoken). s.number) h))
+spoken_once n (Err q) (Ok y) h = absurd (not_zero q.fault (sym (ap (λ (s : Spoken). s.number) h)))
+spoken_once n (Err q) (Err r) h = ap₂ refusal (own_number q.fault r.fault (ap (λ (s : Spoken). s.number) h)) (ap (λ (s : Spoken). s.place) h)
 
 pub day_once : (date : ℕ) (dollars : Bool) (entities ends files : List ℕ) (lent : Day) (a b : Delivered Day)
     → day_of date dollars entities ends files lent ≡ a → day_of date dollars entities ends files lent ≡ b → a ≡ b

@@ -4,7 +4,7 @@ use native.Mathlib.Omega.{arith}
 use mathlib.Core.Bool.{Bool, true, false}
 use mathlib.Core.List.{List, [], ◌∷◌}
 use mathlib.Core.Path.{◌≡◌, refl, ◌∙◌}
-use borrow.Author.Tests.{ltb-true, lt-ltb, le-ltb}
+use borrow.Author.Tests.{ltb-true, lt-ltb}
 use lib.Dec.{ltb}
 use lib.ListN.{length, get_or, set, length-set}
 use lib.Seq.{get_or-set_same, get_or-set_other}
@@ -17,10 +17,6 @@ module _ (i first second : ℕ) (buffer : List ℕ) where
   pub both_written : i < length buffer / 2 → both ≡ pair_written i first second buffer
   unfolding pair_written
   both_written h = rw (lt-ltb i (length buffer / 2) h)
-
-  pub none_written : length buffer / 2 ≤ i → buffer ≡ pair_written i first second buffer
-  unfolding pair_written
-  none_written h = rw (le-ltb i (length buffer / 2) h)
 
   pub pair_length : length (pair_written i first second buffer) ≡ length buffer
   unfolding pair_written

@@ -9,16 +9,15 @@ use mathlib.Core.Path.{◌≡◌, refl, sym, ap, ◌∙◌}
 use borrow.Author.Tests.{ltb-true, ltb-false}
 use lib.Dec.{ltb}
 use lib.ListN.{length, get_or}
+use Rattle.std.specs.Prelude.{Ok, Err}
 use Rattle.paper.specs.declared.rules.Rules.{Rules}
-use Rattle.paper.specs.declared.answer.Answer.{Answer}
-use Rattle.paper.specs.declared.answer.Answer.TheVariants.{Accepted, Refused}
-use Rattle.paper.specs.declared.answer.Fault.{Fault}
-use Rattle.paper.specs.Answers.{accepted, said, require}
+use Rattle.paper.specs.declared.answer.Refusal.{Refusal}
+use Rattle.paper.specs.Answers.{Answer, accepted, said, require}
 use Rattle.paper.specs.Receiving.{showable, explains_at, TextPlace, text_at, Showing, shown_if, showing}
 use Rattle.desk.proofs.Members.{found}
 use Rattle.export.specs.declared.Spoken.{Spoken}
 use Rattle.export.specs.declared.member.SpokenText.{SpokenText}
-use Rattle.export.specs.Spoken.{Delivered, spoken_of, pair_written}
+use Rattle.export.specs.Spoken.{Delivered, spoken_of, spoken_by, pair_written}
 use Rattle.export.specs.Member.{TextStart, start_of, heard_text, shown_of, text_found, texts_from, lent_after, reasons_in}
 use Rattle.export.proofs.PairLaws.{pair_length, pair_at, pair_apart}
 
@@ -90,18 +89,18 @@ module _ (rules : Rules) (e : ℕ) (file motives : List ℕ) where
   as_shown h = λ j place. (found rules e file motives place h refl j).text
 
   module _ (texts : List ℕ) {a : Answer} (asked : said a ≡ showable rules e file motives) where
-    pub all_shown : {spoken : Spoken} {after : List ℕ} → a ≡ Accepted → spoken ≡ spoken_of (length file / 94) accepted → after ≡ texts_from (text_found file) (length file / 94) 0 texts
+    pub all_shown : {spoken : Spoken} {after : List ℕ} → a ≡ Ok tt → spoken ≡ spoken_of (length file / 94) accepted → after ≡ texts_from (text_found file) (length file / 94) 0 texts
         → reasons_in rules e file motives texts ≡ record { spoken = spoken; lent = after }
     unfolding reasons_in lent_after
     all_shown r s t = let h = sym asked ∙ ap said r in rw (s, t, as_shown h, h) refl
 
-    pub none_shown : {spoken : Spoken} {fault : Fault} {place : ℕ} → a ≡ Refused fault place → spoken ≡ spoken_of 0 (said a)
+    pub none_shown : {spoken : Spoken} {r : Refusal} → a ≡ Err r → spoken ≡ spoken_by (Err r)
         → reasons_in rules e file motives texts ≡ record { spoken = spoken; lent = texts }
     unfolding reasons_in lent_after spoken_of
-    none_shown r s = rw (s, ← asked, r) refl
+    none_shown e s = rw (s, ← asked, e) refl
 
     -- so of every index what stands there: showing says the numbers of its record
-    pub reason_at_lem : a ≡ Accepted → (k : ℕ)
+    pub reason_at_lem : a ≡ Ok tt → (k : ℕ)
         → get_or (reasons_in rules e file motives texts).lent k 0
         ≡ cond (ltb (k / 2) (min (length file / 94) (length texts / 2))) (number_at (λ (i : ℕ). (showing rules e file motives i).text) k) (get_or texts k 0)
     unfolding reasons_in lent_after

@@ -1,16 +1,24 @@
 -- What is handed over the boundary.
-use Rattle.std.specs.Prelude.{ℕ, ◌+◌, ◌*◌, ◌/◌, ◌<◌, Bool, cond, List, ◌≡◌, ltb, length, set}
-use Rattle.paper.specs.Answers.{Said, accepted, refused}
+use Rattle.std.specs.Prelude.{ℕ, ◌+◌, ◌*◌, ◌/◌, ◌<◌, Bool, cond, List, ◌≡◌, ltb, length, set, Result, Ok, Err}
+use Rattle.paper.specs.Answers.{Output, Said, accepted, refused, refused_by}
 use Rattle.paper.specs.Buffers.{Outcome}
 use Rattle.paper.specs.Listing.{currency_if}
 use Rattle.paper.specs.Reading.{reading}
 use Rattle.paper.specs.Sessions.{Session, opening}
+use Rattle.desk.specs.declared.Session as desk
+use Rattle.desk.specs.Standing.{standing}
+use Rattle.desk.specs.Calls.{Reachable}
 use Rattle.export.specs.declared.Spoken.{Spoken}
 
 -- an answer on a file of so many records, as two numbers: 0 and the records, or the refusal number, which is never 0, and the place
 unfoldable pub spoken_of : ℕ → Said → Spoken
 spoken_of records accepted = record { number = 0; place = records }
 spoken_of records (refused n place) = record { number = n; place = place }
+
+-- the same of an answer that carries what was counted
+abbrev pub spoken_by : Output → Spoken
+spoken_by (Ok n) = spoken_of n accepted
+spoken_by (Err r) = spoken_of 0 (refused_by r)
 
 -- of a job: its answer, and what then stands in all that was lent to be written
 pub record Delivered (Lent : Type 0) : Type 0 where
@@ -47,6 +55,19 @@ unfoldable pub in_session : {Lent : Type 0} → ℕ → Bool → List ℕ → Le
 in_session date dollars entities lent job =
     let opened = opening date (currency_if dollars) entities in
     after_opening opened.answer lent (job opened.session)
+
+-- the session opened, or what is said of a refused opening
+unfoldable pub session_if : Said → Session → Result Session Spoken
+session_if accepted session = Ok session
+session_if (refused n place) session = Err (not_opened n)
+
+abbrev pub session_for : ℕ → Bool → List ℕ → Result Session Spoken
+session_for date dollars entities = let opened = opening date (currency_if dollars) entities in session_if opened.answer opened.session
+
+-- what a job is handed of it
+abbrev pub OpenedFor : ℕ → Bool → List ℕ → Result desk.Session Spoken → Type 0
+OpenedFor date dollars entities (Ok session) = (Ok (standing session) ≡ session_for date dollars entities) × Reachable session
+OpenedFor date dollars entities (Err spoken) = Err spoken ≡ session_for date dollars entities
 
 -- a file read there; nothing is lent to be written
 unfoldable pub read_of : ℕ → Bool → List ℕ → List ℕ → Delivered (Unit {0})

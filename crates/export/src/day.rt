@@ -6,47 +6,42 @@ ghost use Rattle.export.specs.Day.{between, turns_of, day_of, day_listed};
 
 use crate::figures::hand_figures;
 use crate::pairs::hand_pair;
-use crate::{Spoken, currency, least, not_opened, speak};
+use crate::{Spoken, opened, speak, speak_of};
 use desk::Session;
 use listing::Listing;
-use paper::answer::Answer;
 
 // A day and the presenting of a file say no number of records.
 const NO_RECORDS: usize = 0;
 
 // The bytes from the end of the file before up to an end, as far as there are any.
+#[tactic(auto, using(crate::proofs::Days::part_within))]
 fn between(from: usize, end: usize, files: &[u8]) -> &[u8]
     ensures { result.now ≡ between from end files.now }
 {
-    let stop = least(end, files.len());
-    let start = least(from, stop);
+    let stop = end.min(files.len());
+    let start = from.min(stop);
     &files[start..stop]
 }
 
 // The files in turn, each answer handed over.
-fn present_all(session: Session, ends: &[u64], files: &[u8], answers: &mut [u64]) -> Session
-    requires { Reachable session }
-    ensures { (turns_of ends.now files.now (standing session) answers.old
-        ≡ record { session = standing result; answers = answers.new }) × Reachable result }
+fn present_all(session: &mut Session, ends: &[u64], files: &[u8], answers: &mut [u64])
+    requires { Reachable session.old }
+    ensures { (turns_of ends.now files.now (standing session.old) answers.old
+        ≡ record { session = standing session.new; answers = answers.new }) × Reachable session.new }
 {
-    let mut after = session;
     let mut from: usize = 0;
-    let mut i: usize = 0;
-    while i < ends.len() {
-        let end = ends[i] as usize;
-        let reply = after.present(between(from, end, files));
-        let answer = reply.answer;
-        let spoken = speak(NO_RECORDS, answer);
+    for (i, file_end) in ends.iter().enumerate() {
+        let end = *file_end as usize;
+        let answer = session.present(between(from, end, files));
+        let spoken = speak_of(NO_RECORDS, answer);
         hand_pair(i, spoken.number, spoken.place, answers);
-        after = reply.session;
         from = end;
-        i += 1;
     }
-    after
 }
 
 // File i is the bytes of `files` from the end of the one before up to ends[i]. The opening's answer comes back; where it is accepted, the
 // others stand in `answers`, two numbers each, and the figures of the cells at the end in `figures`, at the indices of `Figure`.
+#[tactic(auto, using(crate::proofs::Jobs::jobs), unfolding(crate::specs::Day::day_of, crate::specs::Day::day_closed))]
 pub fn shaydhoqel_day(
     date: u64,
     dollars: bool,
@@ -60,18 +55,17 @@ pub fn shaydhoqel_day(
         record { answers = answers.old; figures = figures.old }
         ≡ record { spoken = result; lent = record { answers = answers.new; figures = figures.new } } }
 {
-    let opened = Session::open(date, currency(dollars), entities);
-    let answer = opened.answer;
-    if let Answer::Refused(fault, _) = answer {
-        return not_opened(fault);
-    }
-    let session = opened.session;
-    let closed = present_all(session, ends, files, answers);
-    hand_figures(closed.cells(), figures);
-    speak(NO_RECORDS, Answer::Accepted)
+    let mut session = match opened(date, dollars, entities) {
+        Ok(session) => session,
+        Err(spoken) => return spoken,
+    };
+    present_all(&mut session, ends, files, answers);
+    hand_figures(&session.cells(), figures);
+    speak(Ok(NO_RECORDS))
 }
 
 // The listing of the session at the end of such a day, whatever the last answer was: 0 and the number of bytes, or the opening's refusal.
+#[tactic(auto, using(crate::proofs::Jobs::jobs), unfolding(crate::specs::Day::day_listed, crate::specs::Spoken::delivered_of, paper::specs::Buffers::written))]
 pub fn shaydhoqel_day_listing(
     date: u64,
     dollars: bool,
@@ -83,14 +77,11 @@ pub fn shaydhoqel_day_listing(
     ensures { day_listed date dollars entities.now ends.now files.now out.old
         ≡ record { spoken = result; lent = out.new } }
 {
-    let opened = Session::open(date, currency(dollars), entities);
-    let answer = opened.answer;
-    if let Answer::Refused(fault, _) = answer {
-        return not_opened(fault);
-    }
-    let session = opened.session;
+    let mut session = match opened(date, dollars, entities) {
+        Ok(session) => session,
+        Err(spoken) => return spoken,
+    };
     let mut unasked: [u64; 0] = [];
-    let closed = present_all(session, ends, files, &mut unasked);
-    let bytes = listing::print(closed, out);
-    speak(bytes, Answer::Accepted)
+    present_all(&mut session, ends, files, &mut unasked);
+    speak(Ok(listing::print(&session, out)))
 }

@@ -3,11 +3,10 @@ ghost use Rattle.std.specs.Prelude.{◌≡◌};
 ghost use Rattle.paper.specs.Buffers.{extracting};
 ghost use Rattle.export.specs.Spoken.{delivered_of, in_session};
 
-use crate::{Spoken, currency, not_opened, speak_output};
-use desk::Session;
-use paper::answer::Answer;
+use crate::{Spoken, opened, speak};
 
 // An extract in a session opened with this date, currency and list of entities.
+#[tactic(auto, using(crate::proofs::Jobs::jobs))]
 pub fn shaydhoqel_extract(
     date: u64,
     dollars: bool,
@@ -20,12 +19,8 @@ pub fn shaydhoqel_extract(
         (λ session. delivered_of (extracting session.rules entity file.now out.old))
         ≡ record { spoken = result; lent = out.new } }
 {
-    let opened = Session::open(date, currency(dollars), entities);
-    let answer = opened.answer;
-    if let Answer::Refused(fault, _) = answer {
-        return not_opened(fault);
+    match opened(date, dollars, entities) {
+        Ok(session) => speak(session.extract(entity, file, out)),
+        Err(spoken) => spoken,
     }
-    let session = opened.session;
-    let output = session.extract(entity, file, out);
-    speak_output(output)
 }

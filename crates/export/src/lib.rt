@@ -1,16 +1,15 @@
 // The library for programs in Rust, and, by `export_c`, in C: functions on numbers and byte slices.
 #![tactic(auto)]
 
-ghost use Rattle.std.specs.Prelude.{◌≡◌, List, ℕ, min};
+ghost use Rattle.std.specs.Prelude.{◌≡◌};
 ghost use Rattle.paper.specs.Answers.{said, number_of};
-ghost use Rattle.paper.specs.Buffers.{told};
 ghost use Rattle.paper.specs.Listing.{currency_if, positions_of};
 ghost use Rattle.listing.specs.Room.{Written};
-ghost use Rattle.export.specs.Spoken.{spoken_of, delivered_of, not_opened, read_of};
+ghost use Rattle.export.specs.Spoken.{spoken_of, spoken_by, not_opened, OpenedFor, read_of};
 
 use desk::{Session, rules};
 use listing::Listing;
-use paper::answer::{Answer, Fault, Output};
+use paper::answer::{Fault, Refusal};
 use paper::rules::Currency;
 
 pub mod companies;
@@ -21,7 +20,7 @@ pub mod member;
 mod pairs;
 pub mod trays;
 
-// An answer in the paper's numbers: 0 and the number of records, or the refusal number and its place.
+// An answer in the paper's numbers: 0 and the number of records, or the refusal number and its place. No Result: the C interface.
 #[repr(C)]
 #[derive(Clone, Copy)]
 pub struct Spoken {
@@ -34,7 +33,7 @@ impl Spoken {
     pub const OPENING: u64 = 18_446_744_073_709_551_615;
 }
 
-// Figure f of entity e stands at index f * 500 + e: a later figure is appended, and no index moves.
+// Figure f of entity e stands at index f * 500 + e: a later figure is appended, and no index moves. No enum: the C interface.
 #[derive(Clone, Copy)]
 pub struct Figure;
 
@@ -49,15 +48,7 @@ impl Figure {
     pub const FIGURES: usize = 3;
 }
 
-fn least(a: usize, b: usize) -> usize
-    ensures { result ≡ min a b }
-{
-    if a < b {
-        return a;
-    }
-    b
-}
-
+// By a flag, and not by a Currency: the C interface.
 fn currency(dollars: bool) -> Currency
     ensures { result ≡ currency_if dollars }
 {
@@ -67,22 +58,33 @@ fn currency(dollars: bool) -> Currency
     Currency::Pesos
 }
 
-fn speak(records: usize, answer: Answer) -> Spoken
-    ensures { result ≡ spoken_of records (said answer) }
+// 0 and what was counted, or the refusal number and its place.
+#[tactic(auto, unfolding(crate::specs::Spoken::spoken_of))]
+fn speak(answer: Result<usize, Refusal>) -> Spoken
+    ensures { result ≡ spoken_by answer }
 {
     match answer {
-        Answer::Accepted => Spoken {
+        Ok(count) => Spoken {
             number: 0,
-            place: records as u64,
+            place: count as u64,
         },
-        Answer::Refused(fault, place) => Spoken {
-            number: fault.number(),
-            place: place as u64,
+        Err(refusal) => Spoken {
+            number: refusal.fault.number(),
+            place: refusal.place as u64,
         },
     }
 }
 
+// The same of an answer that counts nothing, on so many records.
+#[tactic(auto, unfolding(crate::specs::Spoken::spoken_of))]
+fn speak_of(records: usize, answer: Result<(), Refusal>) -> Spoken
+    ensures { result ≡ spoken_of records (said answer) }
+{
+    speak(answer.map(|()| records))
+}
+
 // A refused opening, told apart from what a job answers in the session of nobody.
+#[tactic(auto, unfolding(crate::specs::Spoken::not_opened))]
 fn not_opened(fault: Fault) -> Spoken
     ensures { result ≡ not_opened (number_of fault) }
 {
@@ -92,13 +94,16 @@ fn not_opened(fault: Fault) -> Spoken
     }
 }
 
-// 0 and the bytes written, or the refusal number and its place.
-fn speak_output(output: Output) -> Spoken
-    ensures { (buffer : List ℕ) → delivered_of (told output buffer) ≡ record { spoken = result; lent = buffer } }
+// The session opened with this date, currency and list of entities, or what is said of a refused opening. Callers match on it and hand over no closure:
+// nothing is known of a lent buffer that a closure wrote to.
+#[tactic(auto, unfolding(crate::specs::Spoken::session_if))]
+fn opened(date: u64, dollars: bool, entities: &[u64]) -> Result<Session, Spoken>
+    ensures { OpenedFor date dollars entities.now result }
 {
-    match output {
-        Output::Accepted(bytes) => speak(bytes, Answer::Accepted),
-        Output::Refused(fault, place) => speak(0, Answer::Refused(fault, place)),
+    let reply = Session::open(date, currency(dollars), entities);
+    match reply.answer {
+        Ok(()) => Ok(reply.session),
+        Err(refusal) => Err(not_opened(refusal.fault)),
     }
 }
 
@@ -107,13 +112,13 @@ pub fn shaydhoqel_read(date: u64, dollars: bool, entities: &[u64], file: &[u8]) 
     ensures { read_of date dollars entities.now file.now ≡ record { spoken = result; lent = tt } }
 {
     let opened = rules::open(date, currency(dollars), entities);
-    let answer = opened.answer;
-    if let Answer::Refused(fault, _) = answer {
-        return not_opened(fault);
+    match opened.answer {
+        Ok(()) => speak_of(
+            file.len() / Session::RECORD,
+            rules::read(&opened.rules, file),
+        ),
+        Err(refusal) => not_opened(refusal.fault),
     }
-    let rules = opened.rules;
-    let read = rules::read(rules, file);
-    speak(file.len() / Session::RECORD, read)
 }
 
 // What the program `positions` prints for this input, and how many bytes that is.

@@ -4,13 +4,13 @@ ghost use Rattle.reasons.specs.Shown.{showing_of};
 ghost use Rattle.export.specs.Member.{heard_text, without_text, shown_of, text_found, texts_from, receive_of, show_of, reasons_of};
 
 use crate::pairs::hand_pair;
-use crate::{Spoken, currency, not_opened, speak};
+use crate::{Spoken, opened, speak, speak_of};
 use desk::Session;
-use paper::answer::Answer;
+use paper::answer::Refusal;
 use reasons::Shown;
 
 // Where the text of a reason stands. Accepted: 0, the bytes of the text, its source, and the byte of that where it begins. Refused: the
-// refusal number and its place, then 0 and 0.
+// refusal number and its place, then 0 and 0. No enum for the sources: the C interface.
 #[repr(C)]
 #[derive(Clone, Copy)]
 pub struct SpokenText {
@@ -30,6 +30,7 @@ impl SpokenText {
 }
 
 // An answer that shows no text.
+#[tactic(auto, unfolding(crate::specs::Member::start_of))]
 fn no_text(spoken: Spoken) -> SpokenText
     ensures { without_text spoken ≡ heard_text result }
 {
@@ -41,23 +42,20 @@ fn no_text(spoken: Spoken) -> SpokenText
     }
 }
 
-fn speak_text(shown: Shown) -> SpokenText
+#[tactic(auto, unfolding(crate::specs::Member::shown_of, crate::specs::Member::start_of, crate::specs::Spoken::spoken_of))]
+fn speak_text(shown: Result<Shown, Refusal>) -> SpokenText
     ensures { shown_of (showing_of shown) ≡ heard_text result }
 {
-    match shown {
-        Shown::File(at) => SpokenText {
-            number: 0,
-            place: Shown::TEXT as u64,
-            source: SpokenText::IN_FILE,
-            at: at as u64,
-        },
-        Shown::Motives(at) => SpokenText {
-            number: 0,
-            place: Shown::TEXT as u64,
-            source: SpokenText::IN_MOTIVES,
-            at: at as u64,
-        },
-        Shown::Refused(fault, place) => no_text(speak(0, Answer::Refused(fault, place))),
+    let (source, at) = match shown {
+        Ok(Shown::File(at)) => (SpokenText::IN_FILE, at),
+        Ok(Shown::Motives(at)) => (SpokenText::IN_MOTIVES, at),
+        Err(refusal) => return no_text(speak(Err(refusal))),
+    };
+    SpokenText {
+        number: 0,
+        place: Shown::TEXT as u64,
+        source,
+        at: at as u64,
     }
 }
 
@@ -67,16 +65,15 @@ fn hand_texts(file: &[u8], texts: &mut [u64])
     ensures { texts.new ≡ texts_from (text_found file.now) (length file.now / 94) 0 texts.old }
 {
     let records = file.len() / Session::RECORD;
-    let mut i: usize = 0;
-    while i < records {
+    for i in 0..records {
         let text = speak_text(reasons::find(file, i));
         hand_pair(i, text.source, text.at, texts);
-        i += 1;
     }
 }
 
 // A file received by the desk of an entity, in a session opened with this date, currency and list of entities: 0 and the number of records,
 // or the refusal.
+#[tactic(auto, using(crate::proofs::Jobs::jobs), unfolding(crate::specs::Member::receive_of))]
 pub fn shaydhoqel_receive(
     date: u64,
     dollars: bool,
@@ -86,17 +83,14 @@ pub fn shaydhoqel_receive(
 ) -> Spoken
     ensures { receive_of date dollars entities.now entity file.now ≡ record { spoken = result; lent = tt } }
 {
-    let opened = Session::open(date, currency(dollars), entities);
-    let answer = opened.answer;
-    if let Answer::Refused(fault, _) = answer {
-        return not_opened(fault);
+    match opened(date, dollars, entities) {
+        Ok(session) => speak_of(file.len() / Session::RECORD, session.receive(entity, file)),
+        Err(spoken) => spoken,
     }
-    let session = opened.session;
-    let received = session.receive(entity, file);
-    speak(file.len() / Session::RECORD, received)
 }
 
 // Where the text of the reason in one record of such a file stands.
+#[tactic(auto, using(crate::proofs::Jobs::jobs), unfolding(crate::specs::Member::show_of))]
 pub fn shaydhoqel_show(
     date: u64,
     dollars: bool,
@@ -108,17 +102,14 @@ pub fn shaydhoqel_show(
 ) -> SpokenText
     ensures { show_of date dollars entities.now entity file.now motives.now «record» ≡ heard_text result }
 {
-    let opened = Session::open(date, currency(dollars), entities);
-    let answer = opened.answer;
-    if let Answer::Refused(fault, _) = answer {
-        return no_text(not_opened(fault));
+    match opened(date, dollars, entities) {
+        Ok(session) => speak_text(session.show(entity, file, motives, record as usize)),
+        Err(spoken) => no_text(spoken),
     }
-    let session = opened.session;
-    let shown = session.show(entity, file, motives, record as usize);
-    speak_text(shown)
 }
 
 // The same of all its records, asked once: two numbers for each in `texts`, source and byte, and 0 and the number of records.
+#[tactic(auto, using(crate::proofs::Jobs::jobs), unfolding(crate::specs::Member::reasons_of))]
 pub fn shaydhoqel_reasons(
     date: u64,
     dollars: bool,
@@ -131,16 +122,13 @@ pub fn shaydhoqel_reasons(
     ensures { reasons_of date dollars entities.now entity file.now motives.now texts.old
         ≡ record { spoken = result; lent = texts.new } }
 {
-    let opened = Session::open(date, currency(dollars), entities);
-    let answer = opened.answer;
-    if let Answer::Refused(fault, _) = answer {
-        return not_opened(fault);
-    }
-    let session = opened.session;
-    let asked = session.ask(entity, file, motives);
-    if let Answer::Refused(_, _) = asked {
-        return speak(0, asked);
+    let session = match opened(date, dollars, entities) {
+        Ok(session) => session,
+        Err(spoken) => return spoken,
+    };
+    if let Err(refusal) = session.ask(entity, file, motives) {
+        return speak(Err(refusal));
     }
     hand_texts(file, texts);
-    speak(file.len() / Session::RECORD, Answer::Accepted)
+    speak(Ok(file.len() / Session::RECORD))
 }

@@ -3,11 +3,10 @@ ghost use Rattle.std.specs.Prelude.{◌≡◌};
 ghost use Rattle.paper.specs.Buffers.{building, stripping};
 ghost use Rattle.export.specs.Spoken.{delivered_of, in_session};
 
-use crate::{Spoken, currency, not_opened, speak_output};
-use desk::Session;
-use paper::answer::Answer;
+use crate::{Spoken, opened, speak};
 
 // A file built in a session opened with this date, currency and list of entities.
+#[tactic(auto, using(crate::proofs::Jobs::jobs))]
 pub fn shaydhoqel_build(
     date: u64,
     dollars: bool,
@@ -20,17 +19,14 @@ pub fn shaydhoqel_build(
         (λ session. delivered_of (building session.rules header.now tray.now out.old))
         ≡ record { spoken = result; lent = out.new } }
 {
-    let opened = Session::open(date, currency(dollars), entities);
-    let answer = opened.answer;
-    if let Answer::Refused(fault, _) = answer {
-        return not_opened(fault);
+    match opened(date, dollars, entities) {
+        Ok(session) => speak(session.build(header, tray, out)),
+        Err(spoken) => spoken,
     }
-    let session = opened.session;
-    let output = session.build(header, tray, out);
-    speak_output(output)
 }
 
 // The tray of a file, in such a session.
+#[tactic(auto, using(crate::proofs::Jobs::jobs))]
 pub fn shaydhoqel_strip(
     date: u64,
     dollars: bool,
@@ -42,12 +38,8 @@ pub fn shaydhoqel_strip(
         (λ session. delivered_of (stripping session.rules file.now out.old))
         ≡ record { spoken = result; lent = out.new } }
 {
-    let opened = Session::open(date, currency(dollars), entities);
-    let answer = opened.answer;
-    if let Answer::Refused(fault, _) = answer {
-        return not_opened(fault);
+    match opened(date, dollars, entities) {
+        Ok(session) => speak(session.strip(file, out)),
+        Err(spoken) => spoken,
     }
-    let session = opened.session;
-    let output = session.strip(file, out);
-    speak_output(output)
 }

@@ -25,6 +25,7 @@ pub fn write(out: &mut [u8], currency: Currency, entity: u64, file: &[u8], place
     let mut number: u64 = 0;
     let mut closed = tally::NONE;
     let mut i: usize = 0;
+    // a turn takes the places of a whole batch, so that no `for` goes over them
     while i < places.len() {
         number += 1;
         let batch = batch::write(&mut out[at..], file, &places[i..], number);

@@ -3,3 +3,4 @@ pub mod Numbers
 pub mod Words
 pub mod Currencies
 pub mod Blocks
+pub mod Pieces

@@ -13,11 +13,20 @@ impl Record {
     pub const MOST: usize = 10000;
 }
 
-#[tactic(auto, unfolding(paper::specs::Reading::record_at))]
-pub fn record_at(file: &[u8], place: usize) -> &[u8]
+// A record is one of the whole pieces of its length that the file has.
+#[tactic(auto, using(crate::proofs::Pieces::piece_at, crate::proofs::Pieces::piece_long), unfolding(paper::specs::Reading::record_at))]
+pub fn record_at(file: &[u8], place: usize) -> &[u8; Record::LENGTH]
     requires { InFile file.now place }
     ensures { (result.now ≡ record_at file.now place) × (length result.now ≡ 94) }
 {
-    let at = place * Record::LENGTH;
-    &file[at..at + Record::LENGTH]
+    let (records, _) = file.as_chunks::<{ Record::LENGTH }>();
+    &records[place]
+}
+
+// A part of a record's length, as a record.
+pub fn whole(part: &[u8]) -> &[u8; Record::LENGTH]
+    requires { length part.now ≡ 94 }
+    ensures { result.now ≡ part.now }
+{
+    part.first_chunk().unwrap()
 }

@@ -6,6 +6,7 @@ ghost use Rattle.verdicts.specs.Verdicts.{check_of, under};
 
 use characters::{number, text};
 use field::date;
+use field::place::Record;
 use paper::answer::Fault;
 use paper::rules::{Reader, Terms};
 use verdicts::member;
@@ -13,8 +14,7 @@ use verdicts::verdict::need;
 
 // Digits; at a desk the next of 1, 2, ..
 #[tactic(auto, using(verdicts::proofs::Chain::chain), unfolding(paper::specs::Records::number_good))]
-fn number_good(reader: Reader, before: u64, rec: &[u8]) -> bool
-    requires rec_len { length rec.now ≡ 94 }
+fn number_good(reader: Reader, before: u64, rec: &[u8; Record::LENGTH]) -> bool
     requires before_bound { before ≤ 10000 }
     ensures { result ≡ number_good reader before (field rec.now 88 94) }
 {
@@ -26,9 +26,8 @@ fn number_good(reader: Reader, before: u64, rec: &[u8]) -> bool
 
 // After so many batches before it.
 #[tactic(auto, using(verdicts::proofs::Chain::chain), unfolding(paper::specs::Records::batch_header))]
-pub fn judge(terms: Terms, before: u64, rec: &[u8]) -> Result<(), Fault>
+pub fn judge(terms: Terms, before: u64, rec: &[u8; Record::LENGTH]) -> Result<(), Fault>
     requires before_bound { before ≤ 10000 }
-    requires rec_len { length rec.now ≡ 94 }
     ensures { check_of result ≡ batch_header (under terms.entry) before rec.now }
 {
     need(number::digits(rec, 2, 4), Fault::Format)?;

@@ -5,6 +5,7 @@ ghost use Rattle.paper.specs.Records.{origin_good, own_desk, headed, file_header
 ghost use Rattle.verdicts.specs.Verdicts.{check_of, under};
 
 use characters::{number, text};
+use field::place::Record;
 use field::{date, entity};
 use paper::answer::Fault;
 use paper::rules::{Currency, Reader, Terms};
@@ -13,8 +14,7 @@ use verdicts::verdict::need;
 
 // An entity field; at a desk free eight digits.
 #[tactic(auto, using(verdicts::proofs::Chain::chain), unfolding(paper::specs::Records::origin_good))]
-fn origin_good(reader: Reader, rec: &[u8]) -> bool
-    requires { length rec.now ≡ 94 }
+fn origin_good(reader: Reader, rec: &[u8; Record::LENGTH]) -> bool
     ensures { result ≡ origin_good reader (field rec.now 15 22) }
 {
     match reader {
@@ -25,8 +25,7 @@ fn origin_good(reader: Reader, rec: &[u8]) -> bool
 
 // The desk's own entity, of the session's currency, with branch 0000.
 #[tactic(auto, using(verdicts::proofs::Chain::chain), unfolding(paper::specs::Records::own_desk))]
-fn own_desk(currency: Currency, desk: u64, rec: &[u8]) -> bool
-    requires { length rec.now ≡ 94 }
+fn own_desk(currency: Currency, desk: u64, rec: &[u8; Record::LENGTH]) -> bool
     ensures { result ≡ own_desk currency desk rec.now }
 {
     entity::of_currency(currency, rec, 5, 12)
@@ -36,8 +35,7 @@ fn own_desk(currency: Currency, desk: u64, rec: &[u8]) -> bool
 
 // The origin's currency and roster; at a desk, that the header is its own.
 #[tactic(auto, using(verdicts::proofs::Chain::chain), unfolding(paper::specs::Records::headed))]
-fn headed(terms: Terms, rec: &[u8]) -> Result<(), Fault>
-    requires { length rec.now ≡ 94 }
+fn headed(terms: Terms, rec: &[u8; Record::LENGTH]) -> Result<(), Fault>
     ensures { check_of result ≡ headed terms.entry.reader (under terms.entry).session rec.now }
 {
     match terms.reader {
@@ -47,8 +45,7 @@ fn headed(terms: Terms, rec: &[u8]) -> Result<(), Fault>
 }
 
 #[tactic(auto, using(verdicts::proofs::Chain::chain), unfolding(paper::specs::Records::file_header))]
-pub fn judge(terms: Terms, rec: &[u8]) -> Result<(), Fault>
-    requires { length rec.now ≡ 94 }
+pub fn judge(terms: Terms, rec: &[u8; Record::LENGTH]) -> Result<(), Fault>
     ensures { check_of result ≡ file_header (under terms.entry) rec.now }
 {
     let destination = text::reads(rec, 4, 4, b" ")

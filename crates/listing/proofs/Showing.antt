@@ -5,6 +5,9 @@ use mathlib.Core.Path.{◌≡◌, refl}
 use native.Mathlib.Nat.{min-le_left}
 use native.Mathlib.Omega.{arith}
 use lib.ListN.{length, get_or, take, length-map, length-take}
+use borrow.Rule.Slice.PartMut.{mid_len}
+use Rattle.std.proofs.lemmas.List.{take_min}
+use Rattle.writing.proofs.Laying.{part_laid}
 use Rattle.listing.specs.Answers.{shown_byte, shown}
 
 pub length_shown : (text : List ℕ) → length (shown text) ≡ length text
@@ -20,3 +23,6 @@ shown_at (b ∷ text) (suc i) h = shown_at text i (omega arith)
 -- as many bytes as were taken
 pub shown_most : (most : ℕ) (text : List ℕ) → length (shown (take most text)) ≤ most
 shown_most most text = rw (length_shown (take most text), length-take most text) (min-le_left most (length text))
+
+-- what the check needs of a text's first bytes
+pub ruleset showing = (take_min, length_shown, part_laid, mid_len)

@@ -1,6 +1,6 @@
 // The lines of a listing, over an array of cells, and the words of an answer.
-ghost use Rattle.std.specs.Prelude.{◌≡◌, [], ◌++◌, ℕ, ◌+◌, ◌*◌, ◌^◌, ◌≤◌, ◌<◌, length, get_or, nat_abs, Err};
-ghost use Rattle.paper.specs.Answers.{number_of, said};
+ghost use Rattle.std.specs.Prelude.{◌≡◌, [], ◌++◌, ℕ, ◌+◌, ◌*◌, ◌^◌, ◌≤◌, ◌<◌, length, get_or, nat_abs};
+ghost use Rattle.paper.specs.Answers.{number_of, said, refused_by};
 ghost use Rattle.paper.specs.Demands.{Touched, session_sides};
 ghost use Rattle.paper.specs.Fields.{bytes};
 ghost use Rattle.paper.specs.Listing.{decimal, figures_line, entity_line, plus_cell, cell_sums, listing, refusal_line};
@@ -89,8 +89,8 @@ pub fn write(cells: &[Cell; Session::ROSTER], out: &mut [u8; Listing::ROOM]) -> 
 #[tactic(auto, using(crate::proofs::Written::written), unfolding(crate::specs::Answers::answer_words))]
 fn refused(out: &mut [u8], at: usize, refusal: Refusal) -> usize
     requires { at + 52 ≤ length out.old }
-    ensures { (result ≡ at + length (answer_words (said (Err refusal))))
-        × (out.new ≡ laid at (answer_words (said (Err refusal))) out.old) }
+    ensures { (result ≡ at + length (answer_words (refused_by refusal)))
+        × (out.new ≡ laid at (answer_words (refused_by refusal)) out.old) }
 {
     let word = writing::text(out, at, b"REFUSED ");
     let past_number = writing::number(out, word, refusal.fault.number());

@@ -25,6 +25,7 @@ fn copy(part: &mut [u8], text: &[u8])
 }
 
 // A text's first bytes, at most so many, from index `at` on; hands back the index after them.
+#[tactic(auto, using(crate::proofs::Showing::showing))]
 pub fn text(out: &mut [u8], at: usize, text: &[u8], most: usize) -> usize
     requires { at + most ≤ length out.old }
     ensures { (result ≡ at + length (shown (take most text.now)))

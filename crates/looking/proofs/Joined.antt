@@ -4,9 +4,9 @@ use native.Mathlib.Omega.{arith}
 use mathlib.Core.List.{List, [], ◌++◌}
 use mathlib.Core.Path.{◌≡◌, sym, subst}
 use lib.ListN.{length}
-use Rattle.std.specs.Prelude.{Some, None, Err}
+use Rattle.std.specs.Prelude.{Some, None}
 use Rattle.paper.specs.declared.answer.Refusal.{Refusal}
-use Rattle.paper.specs.Answers.{said}
+use Rattle.paper.specs.Answers.{refused_by}
 use Rattle.tray.specs.Seen.{most_seen}
 use Rattle.tray.proofs.ByPieces.{seen_on, seen_told, seen_endless}
 use Rattle.company.specs.declared.pieces.Pieces.{Pieces}
@@ -36,7 +36,7 @@ sought_on (form.Company currency) body (sought.Company p) (sought.Tray r) bytes 
 sought_on (form.Company currency) body (sought.Company p) (sought.Company r) bytes piece s whole o = company_on currency body p r bytes piece s whole o
 
 pub sought_told : (form : Form) (body : List ℕ) (s : Sought) (bytes : List ℕ) (r : Refusal) → SeenOf form body s bytes → TellsOf s body (Some r)
-    → said (Err r) ≡ long_said form body bytes
+    → refused_by r ≡ long_said form body bytes
 sought_told form.Tray body (sought.Tray p) bytes r seen t = seen_told p body bytes r seen t
 sought_told form.Tray body (sought.Company p) bytes r seen t = absurd seen
 sought_told (form.Company currency) body (sought.Tray p) bytes r seen t = absurd seen

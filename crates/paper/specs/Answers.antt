@@ -44,10 +44,14 @@ Output = Result ℕ Refusal
 abbrev pub refusal : {A : Type 0} → Fault → ℕ → Result A Refusal
 refusal fault place = Err (record { fault = fault; place = place })
 
--- what an answer of the library says
-abbrev pub said : Answer → Said
-said (Ok done) = accepted
-said (Err r) = refused (number_of r.fault) r.place
+-- what a refusal says
+abbrev pub refused_by : Refusal → Said
+refused_by r = refused (number_of r.fault) r.place
+
+-- what an answer of the library says, whatever acceptance carries
+abbrev pub said : {A : Type 0} → Result A Refusal → Said
+said (Ok carried) = accepted
+said (Err r) = refused_by r
 
 -- the first refusal is the answer: one stands, and acceptance asks on
 unfoldable pub and_then : Said → Said → Said

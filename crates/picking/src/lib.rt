@@ -36,8 +36,7 @@ pub struct Picking {
 
 // At any branch.
 #[tactic(auto, unfolding(paper::specs::Extract::is_to))]
-fn is_to(entity: u64, rec: &[u8]) -> bool
-    requires { length rec.now ≡ 94 }
+fn is_to(entity: u64, rec: &[u8; Record::LENGTH]) -> bool
     ensures { result ≡ is_to entity rec.now }
 {
     individual::destination(rec) == entity

@@ -54,14 +54,14 @@ pub record Reaches (rules : ReadingRules) (file : List ℕ) (records place : ℕ
   pub left : on_from rules file records place st ≡ on_from rules file records at after
 
 -- how far a run of records went without fault, and what the next one finds before it; or the fault that ended it, and where
-abbrev pub Run : Type 0
-Run = Result (ℕ × State) Refusal
+abbrev pub Reached : Type 0
+Reached = Result (ℕ × State) Refusal
 
-unfoldable pub Runs : ReadingRules → List ℕ → ℕ → ℕ → State → Run → Type 0
+unfoldable pub Runs : ReadingRules → List ℕ → ℕ → ℕ → State → Reached → Type 0
 Runs rules file records place st (Ok reached) = Reaches rules file records place st reached.0 reached.1
 Runs rules file records place st (Err r) = on_from rules file records place st ≡ refused (number_of r.fault) r.place
 
 -- a run went further than where it began
-unfoldable pub Further : ℕ → Run → Type 0
+unfoldable pub Further : ℕ → Reached → Type 0
 Further place (Ok reached) = place < reached.0
 Further place (Err r) = Unit {0}

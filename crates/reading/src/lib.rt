@@ -8,7 +8,8 @@ ghost use Rattle.paper.specs.Kinds.{kind_of, allowed};
 ghost use Rattle.paper.specs.Reading.{finish, length_good, reading_by, record_at};
 ghost use Rattle.state.specs.States.{Arrived};
 ghost use Rattle.verdicts.specs.Verdicts.{check_of, under};
-ghost use Rattle.reading.specs.Said.{reading_says, Carries};
+ghost use Rattle.paper.specs.Answers.{said};
+ghost use Rattle.reading.specs.Said.{Carries};
 ghost use Rattle.reading.specs.Taken.{taken, Comes, Clean, is_entry, Framed, Underway, Runs, Further};
 
 use characters::{number, text};
@@ -192,7 +193,7 @@ fn onward(
 
 // Records that end before a file control are wrong one past the last.
 fn finish(before: Before, records: usize) -> Result<usize, Refusal>
-    ensures { (reading_says result ≡ finish before records) × Carries records result }
+    ensures { (said result ≡ finish before records) × Carries records result }
 {
     match before {
         Before::Ended => Ok(records),
@@ -202,7 +203,7 @@ fn finish(before: Before, records: usize) -> Result<usize, Refusal>
 
 // Acceptance with the number of records.
 pub fn read(terms: Terms, file: &[u8]) -> Result<usize, Refusal>
-    ensures { (reading_says result ≡ reading_by (under terms.entry) file.now) × Carries (length file.now / 94) result }
+    ensures { (said result ≡ reading_by (under terms.entry) file.now) × Carries (length file.now / 94) result }
 {
     if !length_good(file.len()) {
         return Err(Fault::Length.at(0));

@@ -6,10 +6,10 @@ use Rattle.paper.specs.Receiving.{TextPlace, in_file, in_motives, nowhere, Showi
 use Rattle.reasons.specs.declared.Shown.{Shown}
 use Rattle.reasons.specs.declared.Shown.TheVariants.{File, Motives}
 
-abbrev pub place_of : Shown → TextPlace
-place_of (File at) = in_file at
-place_of (Motives at) = in_motives at
+abbrev pub text_place : Shown → TextPlace
+text_place (File at) = in_file at
+text_place (Motives at) = in_motives at
 
 abbrev pub showing_of : Result Shown Refusal → Showing
-showing_of (Ok shown) = record { answer = accepted; text = place_of shown }
+showing_of (Ok shown) = record { answer = accepted; text = text_place shown }
 showing_of (Err r) = record { answer = refused (number_of r.fault) r.place; text = nowhere }

@@ -5,7 +5,7 @@ ghost use Rattle.std.specs.Prelude.{◌≡◌, ◌*◌, ◌-◌, ◌≤◌, ◌<
 ghost use Rattle.paper.specs.Answers.{require};
 ghost use Rattle.paper.specs.Receiving.{explains, explains_at, text_at, shown_if, text_in};
 ghost use Rattle.field.specs.Places.{InFile};
-ghost use Rattle.reasons.specs.Shown.{place_of, showing_of};
+ghost use Rattle.reasons.specs.Shown.{text_place, showing_of};
 
 use characters::{number, text};
 use field::kind;
@@ -38,7 +38,7 @@ impl Shown {
     // The text itself, a part of the file or of the motive list.
     #[tactic(auto, unfolding(paper::specs::Receiving::text_in))]
     pub fn text<'a>(self, file: &'a [u8], motives: &'a [u8]) -> &'a [u8]
-        ensures { result.now ≡ text_in (place_of self) file.now motives.now }
+        ensures { result.now ≡ text_in (text_place self) file.now motives.now }
     {
         match self {
             Shown::File(at) => part(file, at),
@@ -59,7 +59,7 @@ fn line(number: u64) -> usize
 #[tactic(auto, unfolding(paper::specs::Receiving::text_at))]
 fn text_at(file: &[u8], place: usize) -> Shown
     requires { InFile file.now place }
-    ensures { place_of result ≡ text_at file.now place }
+    ensures { text_place result ≡ text_at file.now place }
 {
     let rec = record_at(file, place);
     if text::blank(rec, 36, 79) {
@@ -70,8 +70,7 @@ fn text_at(file: &[u8], place: usize) -> Shown
 
 // A 7 after a 36 or 31.
 #[tactic(auto, unfolding(paper::specs::Receiving::explains))]
-fn explains(kind: Kind, before: &[u8]) -> bool
-    requires { length before.now ≡ 94 }
+fn explains(kind: Kind, before: &[u8; Record::LENGTH]) -> bool
     ensures { result ≡ explains kind before.now }
 {
     match kind {

@@ -5,7 +5,7 @@ ghost use Rattle.std.specs.Prelude.{◌≡◌};
 ghost use Rattle.sharing.specs.Shares.{holds_to, Shares};
 
 use desk::Session;
-use field::{individual, kind};
+use field::{individual, kind, place};
 use paper::answer::Refusal;
 use paper::record::Kind;
 
@@ -18,7 +18,7 @@ fn holds(entity: u64, file: &[u8]) -> bool
     let mut inside = false;
     for place in 0..records {
         let at = place * Session::RECORD;
-        let rec = &file[at..at + Session::RECORD];
+        let rec = place::whole(&file[at..at + Session::RECORD]);
         match kind::kind(rec) {
             Kind::BatchHeader => {
                 inside = true;

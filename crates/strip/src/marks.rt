@@ -6,13 +6,13 @@ ghost use Rattle.strip.specs.Tray.{on_tray, ToMark};
 
 use characters::text::part;
 use field::kind;
+use field::place::Record;
 use paper::record::Kind;
 use tray::Tray;
 use writing::text;
 
 // How many bytes that is: those of a tray record, or none.
-pub fn bytes(rec: &[u8]) -> usize
-    requires { length rec.now ≡ 94 }
+pub fn bytes(rec: &[u8; Record::LENGTH]) -> usize
     ensures { (result ≡ length (on_tray rec.now)) × (result ≤ 96) }
 {
     match kind::kind(rec) {
@@ -22,7 +22,7 @@ pub fn bytes(rec: &[u8]) -> usize
 }
 
 // A tray record at the front of the buffer, with zeros in its body's 88-94.
-fn put(dst: &mut [u8], mark: &[u8], rec: &[u8]) -> usize
+fn put(dst: &mut [u8], mark: &[u8], rec: &[u8; Record::LENGTH]) -> usize
     requires { ToMark mark.now rec.now dst.old }
     ensures { (result ≡ 96) × (dst.new ≡ over (mark.now ++ zeroed rec.now) dst.old) }
 {
@@ -32,8 +32,8 @@ fn put(dst: &mut [u8], mark: &[u8], rec: &[u8]) -> usize
 }
 
 // A 5, 6 or 7 goes to the front of the buffer, marked; of any other record nothing is written.
-pub fn marked(dst: &mut [u8], rec: &[u8]) -> usize
-    requires { (length rec.now ≡ 94) × (length (on_tray rec.now) ≤ length dst.old) }
+pub fn marked(dst: &mut [u8], rec: &[u8; Record::LENGTH]) -> usize
+    requires { length (on_tray rec.now) ≤ length dst.old }
     ensures { (result ≡ length (on_tray rec.now)) × (dst.new ≡ over (on_tray rec.now) dst.old) }
 {
     match kind::kind(rec) {

@@ -10,7 +10,7 @@ use Rattle.std.specs.Prelude.{Some, None, Err}
 use lib.Dec.{leb, eqb}
 use lib.ListN.{length, length-append}
 use Rattle.paper.specs.declared.answer.Refusal.{Refusal}
-use Rattle.paper.specs.Answers.{Said, accepted, refused, said, and_then, require}
+use Rattle.paper.specs.Answers.{Said, accepted, refused, said, refused_by, and_then, require}
 use Rattle.paper.specs.Buffers.{tray_answer}
 use Rattle.paper.specs.Trays.{tray_records, tray_record_good, tray_fault}
 use Rattle.paper.proofs.Lists.{parts_append}
@@ -109,7 +109,7 @@ seen_on p r tray piece s none o = go (leb p.records most_seen) refl
 
 -- of all of a tray, by what is known after its pieces: 207 as of the whole, else 201
 -- (not so with a look that takes a tray without end for one that has ended)
-pub seen_told : (p : Pieces) (header tray : List ℕ) (r : Refusal) → Seen p tray → Tells p header (Some r) → said (Err r) ≡ and_then (tray_answer header tray) (refused 201 0)
+pub seen_told : (p : Pieces) (header tray : List ℕ) (r : Refusal) → Seen p tray → Tells p header (Some r) → refused_by r ≡ and_then (tray_answer header tray) (refused 201 0)
 unfolding tray_answer
 seen_told p header tray r seen t =
     let w = seen.whole t.0 in

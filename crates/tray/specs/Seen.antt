@@ -1,7 +1,7 @@
 -- A tray looked at in pieces.
 use Rattle.std.specs.Prelude.{ℕ, ◌+◌, ◌/◌, ◌%◌, ◌^◌, ◌≤◌, ◌<◌, ◌&&◌, List, ◌≡◌, Option, Some, None, Err, eqb, length}
 use Rattle.paper.specs.declared.answer.Refusal.{Refusal}
-use Rattle.paper.specs.Answers.{Said, said, refused, and_then, require}
+use Rattle.paper.specs.Answers.{Said, said, refused_by, refused, and_then, require}
 use Rattle.paper.specs.Trays.{tray_records, tray_fault}
 use Rattle.tray.specs.declared.pieces.Pieces.{Pieces}
 
@@ -37,5 +37,5 @@ long_answer p header = and_then (require (eqb (length header) 94 && eqb p.left 0
 
 -- it is given of a tray that has an end, and of no other
 abbrev pub Tells : Pieces → List ℕ → Option Refusal → Type 0
-Tells p header (Some r) = (p.records ≤ most_seen) × (said (Err r) ≡ long_answer p header)
+Tells p header (Some r) = (p.records ≤ most_seen) × (refused_by r ≡ long_answer p header)
 Tells p header None = most_seen < p.records

@@ -6,14 +6,14 @@ use Rattle.state.proofs.Numbering.{none_known}
 use Rattle.state.specs.States.{meant, Preceded}
 use Rattle.verdicts.specs.Verdicts.{under}
 use Rattle.controls.proofs.Bounds.{below_zeros}
-use Rattle.reading.specs.Said.{reading_says, Carries}
+use Rattle.reading.specs.Said.{Carries}
 use Rattle.reading.specs.Taken.{Reaches, Runs, Further}
 use Rattle.reading.proofs.Walk.{done, at_start, short, too_long, read_through}
 use Rattle.reading.proofs.read.Goals as goal
 use Rattle.reading.proofs.read.Goals.{Else-not-length_good, In_ok-at}
 
 pub returns-then-not-length_good : goal.returns-then-not-length_good
-unfolding reading_says Carries
+unfolding Carries
 returns-then-not-length_good c =
     rw c.at.ensures (too_long _ _ (sym c.length_good.ensures ∙ c.if-not-length_good.true), tt)
 
@@ -46,7 +46,7 @@ onward-requires c =
     record { underway = p.underway; place_lt_records = (c.loop-place-test.true, p.framed c.loop-place-test.true) }
 
 pub returns-in_err-at : goal.returns-in_err-at
-unfolding reading_says Carries Runs
+unfolding Carries Runs
 returns-in_err-at c =
     let p = err_from_is_err_and c.from_residual.result c.from_residual.ensures.1 in
     rw (p.1, p.2) (read_through _ _ c.loop-place.invariant.fit (c.loop-place.invariant.left ∙ c.in_err-at.ensures.0), tt)

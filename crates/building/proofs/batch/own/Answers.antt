@@ -33,13 +33,13 @@ write-numbering-requires c =
       room = room_long c.requires c.loop-records.invariant (mine (goal.at.write-numbering-requires c).After-opens) (ap not c.if-opens.false);
     }
 
-pub count-tally-requires-clause-below : goal.count-tally-requires-clause-below
-count-tally-requires-clause-below c = tally_below c.requires c.loop-records.invariant
+pub count-tally-requires : goal.count-tally-requires
+count-tally-requires c = record { below = tally_below c.requires c.loop-records.invariant }
 
 pub loop-records-preserved : goal.loop-records-preserved
 loop-records-preserved c =
     one_numbered c.requires c.loop-records.invariant (mine (goal.at.loop-records-preserved c).After-opens) (ap not c.if-opens.false)
-    c.body_at-body.ensures.0 c.write-numbering.ensures.0 c.write-numbering.ensures.1 c.count-tally.ensures
+    c.body_at-body.ensures.0 c.write-numbering.ensures.0 c.write-numbering.ensures.1 (rw c.whole.ensures at c.count-tally.ensures)
 
 pub shape_of-dst : goal.shape_of-dst
 shape_of-dst c =

@@ -15,5 +15,5 @@ unfolding account_checked
 returns c =
     let r = c.args.rec.now in
     let digits = block_digits r (T_of (sym c.digits.ensures ∙ c.if-not-digits.false)) in
-    ap₂ ◌&&◌ (c.three_zeros.ensures _ c.word-front.ensures ∙ ap (λ (f : List ℕ). is f "000") (account_zeros r c.requires))
-    (c.good.ensures ∙ block_told (field r 16 29) (account_words r c.requires c.word-front.ensures c.word-back.ensures) digits)
+    ap₂ ◌&&◌ (c.three_zeros.ensures _ c.word-front.ensures ∙ ap (λ (f : List ℕ). is f "000") (account_zeros r c.told-rec))
+    (c.good.ensures ∙ block_told (field r 16 29) (account_words r c.told-rec c.word-front.ensures c.word-back.ensures) digits)

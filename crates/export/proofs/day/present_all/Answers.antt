@@ -1,19 +1,16 @@
-use Rattle.std.proofs.Common.{arith, refl, ◌∙◌}
+use Rattle.std.proofs.Common.{arith, ◌∙◌}
 use Rattle.desk.specs.Standing.{standing}
 use Rattle.export.specs.Day.{turns_of}
 use Rattle.export.proofs.Days.{one_turn, last_turn}
 use Rattle.export.proofs.day.present_all.Goals as goal
 
-pub loop-i-init : goal.loop-i-init
-loop-i-init c = record { long = refl; reached = c.requires; left = refl }
-
 pub loop-i-preserved : goal.loop-i-preserved
 loop-i-preserved c =
     record {
       long = omega (arith, c.hand_pair.auto.pairs);
-      reached = c.present-reply.ensures.1;
+      reached = c.present-answer.ensures.1;
       left = c.loop-i.invariant.left
-          ∙ one_turn _ _ _ _ (standing c.loop-i.after) c.loop-i.answers c.loop-i-test.true c.between.ensures c.present-reply.ensures.0 c.speak-spoken.ensures c.hand_pair.ensures;
+          ∙ one_turn _ _ _ _ (standing c.loop-i.session) c.loop-i.answers c.loop-i-test.true c.between.ensures c.present-answer.ensures.0 c.speak_of-spoken.ensures c.hand_pair.ensures;
     }
 
 pub returns : goal.returns

@@ -1,4 +1,4 @@
-use Rattle.std.proofs.Common.{List, drop, length, ℕ, ◌-◌, ◌≡◌}
+use Rattle.std.proofs.Common.{List, drop, length, ℕ, ◌≡◌}
 use Rattle.desk.specs.declared.Session.{Session}
 use Rattle.desk.specs.Standing.{standing}
 use Rattle.desk.specs.Calls.{Reachable}
@@ -13,7 +13,4 @@ pub record Progress (ends files answers₀ : List ℕ) (after₀ : Session) (ans
   pub left : turns_from 0 0 ends files (turns (standing after₀) answers₀) ≡ turns_from i from (drop i ends) files (turns (standing after) answers)
 
 abbrev pub invariant-loop-i : goal.invariant-loop-i
-invariant-loop-i l = Progress l.ends l.files l.initial.answers l.initial.after l.answers l.after l.from l.i
-
-abbrev pub decreases-loop-i : goal.decreases-loop-i
-decreases-loop-i l = length l.ends - l.i
+invariant-loop-i l = Progress l.ends l.files l.initial.answers l.initial.session l.answers l.session l.from l.i

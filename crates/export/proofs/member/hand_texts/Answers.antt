@@ -1,5 +1,4 @@
-use Rattle.std.proofs.Common.{arith, refl, sym, ◌∙◌}
-use native.Mathlib.Nat.{sub-zero}
+use Rattle.std.proofs.Common.{arith, sym, ◌∙◌}
 use Rattle.export.proofs.Texts.{one_more, no_more}
 use Rattle.export.proofs.member.hand_texts.Goals as goal
 
@@ -14,6 +13,3 @@ loop-i-preserved c =
 pub returns : goal.returns
 returns c =
     sym (c.loop-i.invariant.left ∙ no_more _ _ _ _ c.loop-i-test.false)
-
-pub loop-i-init : goal.loop-i-init
-loop-i-init c = record { long = refl; left = rw sub-zero }

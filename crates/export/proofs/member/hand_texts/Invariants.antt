@@ -9,6 +9,3 @@ pub record Progress (file texts₀ : List ℕ) (records : ℕ) (texts : List ℕ
 
 abbrev pub invariant-loop-i : goal.invariant-loop-i
 invariant-loop-i l = Progress l.file l.initial.texts l.records l.texts l.i
-
-abbrev pub decreases-loop-i : goal.decreases-loop-i
-decreases-loop-i l = l.records - l.i

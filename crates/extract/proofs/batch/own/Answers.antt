@@ -25,7 +25,7 @@ slice_bounds-copy_from_slice-end c =
     room_for c.requires c.loop-i.invariant (own_here (goal.at.slice_bounds-copy_from_slice-end c).After-opens) (ap not c.if-opens.false)
 
 pub count-tally-requires : goal.count-tally-requires
-count-tally-requires c = record { rec_len = c.record_at-rec.ensures.1; below = tally_below c.requires c.loop-i.invariant }
+count-tally-requires c = record { below = tally_below c.requires c.loop-i.invariant }
 
 pub loop-i-preserved : goal.loop-i-preserved
 loop-i-preserved c =

@@ -10,11 +10,11 @@ use Rattle.field.proofs.individual.counter.Goals.{In_ok-high}
 
 pub returns-then-not-digits : goal.returns-then-not-digits
 returns-then-not-digits c =
-    sequence_first _ c.requires (sym c.digits.ensures ∙ c.if-not-digits.true)
+    sequence_first _ c.told-rec (sym c.digits.ensures ∙ c.if-not-digits.true)
 
 pub returns-in_err-high : goal.returns-in_err-high
 returns-in_err-high c =
-    c.from_residual.ensures ∙ sequence_last _ c.requires (told_none _ (sym c.halves.ensures ∙ c.in_err-high.was))
+    c.from_residual.ensures ∙ sequence_last _ c.told-rec (told_none _ (sym c.halves.ensures ∙ c.in_err-high.was))
 
 -- the last eight are digits
 abbrev eight : (c : In_ok-high) → let f = field c.args.rec.now 87 94 in
@@ -25,13 +25,13 @@ small : (c : In_ok-high) → c.in_ok-high.low < 10000
 small c =
     let f = field c.args.rec.now 87 94 in
     let t = eight c in
-    rw t.2 at (last_small f (part_length c.args.rec.now 87 94 (omega (arith, c.requires))) (T_of t.0))
+    rw t.2 at (last_small f (part_length c.args.rec.now 87 94 (omega (arith, c.told-rec))) (T_of t.0))
 
 pub returns : goal.returns
 returns c =
     let t = eight c in
     rw (← t.1, ← t.2)
-    (sequence_told _ c.requires (sym c.digits.ensures ∙ c.if-not-digits.false) t.0)
+    (sequence_told _ c.told-rec (sym c.digits.ensures ∙ c.if-not-digits.false) t.0)
 
 pub overflow_add-result : goal.overflow_add-result
 overflow_add-result c = omega (arith, small c)

@@ -12,32 +12,32 @@ use Rattle.strip.proofs.marks.marked.Goals as goal
 pub put-requires : goal.put-requires
 unfolding marked
 put-requires c =
-    mark_asked (bytes "LO") _ c.kind.ensures c.in-BatchHeader.is refl c.requires.0 refl _ c.requires.1
+    mark_asked (bytes "LO") _ c.kind.ensures c.in-BatchHeader.is refl c.told-rec refl _ c.requires
 
 pub put-requires-in-Individual : goal.put-requires-in-Individual
 unfolding marked
 put-requires-in-Individual c =
-    mark_asked (bytes "IN") _ c.kind.ensures c.in-Individual.is refl c.requires.0 refl _ c.requires.1
+    mark_asked (bytes "IN") _ c.kind.ensures c.in-Individual.is refl c.told-rec refl _ c.requires
 
 pub put-requires-in-Additional : goal.put-requires-in-Additional
 unfolding marked
 put-requires-in-Additional c =
-    mark_asked (bytes "AD") _ c.kind.ensures c.in-Additional.is refl c.requires.0 refl _ c.requires.1
+    mark_asked (bytes "AD") _ c.kind.ensures c.in-Additional.is refl c.told-rec refl _ c.requires
 
 pub returns-in-BatchHeader : goal.returns-in-BatchHeader
 unfolding marked
 returns-in-BatchHeader c =
-    mark_put (bytes "LO") _ c.kind.ensures c.in-BatchHeader.is refl c.requires.0 c.args.dst.now c.put.ensures
+    mark_put (bytes "LO") _ c.kind.ensures c.in-BatchHeader.is refl c.told-rec c.args.dst.now c.put.ensures
 
 pub returns-in-Individual : goal.returns-in-Individual
 unfolding marked
 returns-in-Individual c =
-    mark_put (bytes "IN") _ c.kind.ensures c.in-Individual.is refl c.requires.0 c.args.dst.now c.put-in-Individual.ensures
+    mark_put (bytes "IN") _ c.kind.ensures c.in-Individual.is refl c.told-rec c.args.dst.now c.put-in-Individual.ensures
 
 pub returns-in-Additional : goal.returns-in-Additional
 unfolding marked
 returns-in-Additional c =
-    mark_put (bytes "AD") _ c.kind.ensures c.in-Additional.is refl c.requires.0 c.args.dst.now c.put-in-Additional.ensures
+    mark_put (bytes "AD") _ c.kind.ensures c.in-Additional.is refl c.told-rec c.args.dst.now c.put-in-Additional.ensures
 
 pub returns-in_default : goal.returns-in_default
 unfolding marked on_tray joined over

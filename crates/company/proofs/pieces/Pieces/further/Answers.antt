@@ -1,6 +1,7 @@
 use Rattle.std.proofs.Common.{arith, refl, sym, ◌∙◌}
 use Rattle.paper.proofs.Refusals.{both_accept}
-use Rattle.company.specs.Sums.{judged, sum_in}
+use Rattle.paper.specs.Answers.{said}
+use Rattle.company.specs.Sums.{sum_in}
 use Rattle.company.proofs.OnePiece.{all_judged, all_added, last_closes}
 use Rattle.company.proofs.pieces.Pieces.further.Goals as goal
 
@@ -14,9 +15,9 @@ returns c =
     let total = rw r at c.judge_on.ensures.total in
     record {
       money = refl;
-      going = end ∙ rw inner.first_fault (all_judged c.args.piece.now h p.currency c.args.lo.now p.records (sum_in p.going) (judged p.going));
-      sum = λ e. all_added c.args.piece.now h p.currency c.args.lo.now p.records (sum_in p.going) (inner.total (both_accept (judged c.judge_on-inner.result) _ (sym end ∙ e)).0) (total e);
-      ending = last_closes c.args.piece.now h p.currency c.args.lo.now p.records (sum_in p.going) (judged p.going) inner.first_fault inner.total (rw r at c.close_on.ensures);
+      going = end ∙ rw inner.first_fault (all_judged c.args.piece.now h p.currency c.args.lo.now p.records (sum_in p.going) (said p.going));
+      sum = λ e. all_added c.args.piece.now h p.currency c.args.lo.now p.records (sum_in p.going) (inner.total (both_accept (said c.judge_on-inner.result) _ (sym end ∙ e)).0) (total e);
+      ending = last_closes c.args.piece.now h p.currency c.args.lo.now p.records (sum_in p.going) (said p.going) inner.first_fault inner.total (rw r at c.close_on.ensures);
       records = omega (arith, h);
       left = refl;
     }
