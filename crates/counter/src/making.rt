@@ -10,6 +10,7 @@ use looking::Form;
 use paper::rules::Currency;
 use typed::call::Word;
 
+// No one function with `jobs::build` over a closure: that what a closure counts is within the buffer takes a longer clause than the lines that the two share.
 pub(crate) fn make(rt: &impl World, currency: Currency) -> Result<(), Stopped> {
     // one byte more than an LO body shows that there was more
     let mut lo = [0u8; Session::RECORD + 1];
