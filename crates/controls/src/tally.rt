@@ -57,6 +57,7 @@ pub fn with_additional(tally: Tally) -> Tally
     }
 }
 
+// No impl of `Add`: the bound on both would be a ghost of that, longer than these clauses.
 #[tactic(auto, unfolding(paper::specs::Controls::plus))]
 pub fn plus(a: Tally, b: Tally) -> Tally
     requires below { Below (10 ^ 18) a }

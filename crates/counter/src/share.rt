@@ -10,9 +10,6 @@ use intake::held;
 use intake::held::Size;
 use typed::call::Word;
 
-// A path has no more bytes.
-const PATH_MAX: usize = 4096;
-
 // What a file's name takes behind that of its folder, at most.
 const NAME: usize = 32;
 
@@ -89,7 +86,7 @@ fn share_to(rt: &impl World, session: &Session, folder: &[u8]) -> Result<(), Sto
 pub(crate) fn share(rt: &impl World, session: &Session) -> Result<(), Stopped> {
     let mut folder = io::buffer();
     let folder = taking::name(rt, Word::SECOND, &mut folder)?;
-    if folder.len() > PATH_MAX - NAME {
+    if folder.len() > handing::PATH_MAX - NAME {
         saying::wrong(folder, b"the name of a folder is too long");
         return Err(Stopped::Undone);
     }

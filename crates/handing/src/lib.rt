@@ -17,7 +17,7 @@ use std::{fs, io};
 pub mod modes;
 
 // A path has no more bytes.
-const PATH_MAX: usize = 4096;
+pub const PATH_MAX: usize = 4096;
 
 // A path, and the name of a part in its folder.
 const PART: usize = 2 * PATH_MAX;
@@ -92,6 +92,7 @@ fn folder(path: &[u8]) -> &[u8]
 // A name in the folder of the path. The launcher chose it, and finds the file by it where a signal ends the program.
 fn name_part<'a>(part: &'a mut [u8], path: &[u8], name: &[u8]) -> &'a [u8]
     requires { length path.now + length name.now ≤ length part.old }
+    ensures { length result.now ≤ length part.old }
 {
     let past_folder = writing::text(part, 0, folder(path));
     let end = writing::text(part, past_folder, name);

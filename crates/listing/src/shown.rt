@@ -8,10 +8,7 @@ ghost use Rattle.writing.specs.Laid.{laid};
 fn byte(b: u8) -> u8
     ensures { result ≡ shown_byte b }
 {
-    match b {
-        0..=31 | 127 => b'?',
-        _ => b,
-    }
+    if b.is_ascii_control() { b'?' } else { b }
 }
 
 // A text over a part of its length.

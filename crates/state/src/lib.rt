@@ -9,6 +9,7 @@ use entries::individual::Entry;
 use field::place::Record;
 use paper::record::{Before, Kind, Tally};
 
+// A step is its judge and the state after it, two lines for each kind: one step that is handed its judge would be no shorter.
 pub mod additional;
 pub mod batch_control;
 pub mod batch_header;

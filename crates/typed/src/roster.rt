@@ -74,7 +74,8 @@ impl Wrong {
     // Its first bytes.
     #[tactic(auto, unfolding(crate::specs::Rosters::shown_in))]
     pub fn shown(&self) -> &[u8]
-        ensures { result.now ≡ shown_in self.now }
+        ensures told { result.now ≡ shown_in self.now }
+        ensures bound { length result.now ≤ 64 }
     {
         &self.bytes[..self.kept.min(Roster::SHOWN)]
     }
