@@ -1,5 +1,5 @@
 // A roster as text: entity numbers separated by blanks or line ends. A text of any length is read piece by piece.
-ghost use Rattle.std.specs.Prelude.{◌≡◌, length};
+ghost use Rattle.std.specs.Prelude.{◌≡◌, ◌≤◌, length};
 ghost use Rattle.paper.specs.Buffers.{over};
 ghost use Rattle.typed.specs.Rosters.{separator, begun, noted, marks_after, progress_after, closed, with_if, read_on, entities_in};
 ghost use Rattle.typed.specs.Rosters.{roster_of, next_place, begun_if, bytes_with, kept_with, progress_with, shown_in, wrong_in};
