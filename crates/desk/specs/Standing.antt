@@ -1,10 +1,11 @@
 -- The desk's session and reply, in the paper's words.
-use Rattle.std.specs.Prelude.{ℕ, false, List, replicate}
+use Rattle.std.specs.Prelude.{ℕ, Bool, true, false, ◌&&◌, List, leb, length, replicate}
 use Rattle.paper.specs.declared.rules.Currency.{Currency}
 use Rattle.paper.specs.declared.rules.Rules.{Rules}
 use Rattle.paper.specs.Answers.{said}
+use Rattle.paper.specs.Fields.{field, identifier_field}
 use Rattle.paper.specs.Sessions as paper
-use Rattle.paper.specs.Sessions.{listed, zero_cell}
+use Rattle.paper.specs.Sessions.{key_of, listed, zero_cell}
 use Rattle.desk.specs.declared.Session.{Session}
 use Rattle.desk.specs.declared.Reply.{Reply}
 
@@ -25,3 +26,11 @@ holding_zeros rules = record { rules = rules; cells = replicate 500 zero_cell; u
 
 abbrev pub heard : Reply → paper.Reply
 heard r = record { answer = said r.answer; session = standing r.session }
+
+-- whether a file has an origin and an identifier to make a key of
+unfoldable pub keyed : List ℕ → Bool
+keyed file = leb 94 (length file) && identifier_field (field file 34 34)
+
+abbrev pub key_if : Bool → List ℕ → ℕ
+key_if true file = key_of file
+key_if false file = 0

@@ -1,10 +1,13 @@
 // The key of a file: the origin's entity number without branch, and the identifier.
-ghost use Rattle.std.specs.Prelude.{◌≡◌, ◌||◌, ◌≤◌, ◌<◌, T, leb, length, slice_index};
+ghost use Rattle.std.specs.Prelude.{◌≡◌, ◌||◌, ◌<◌, T, leb};
 ghost use Rattle.paper.specs.Fields.{digit, capital};
-ghost use Rattle.paper.specs.Sessions.{identifier_if, key_of};
+ghost use Rattle.paper.specs.Sessions.{identifier_if};
+ghost use Rattle.desk.specs.Standing.{keyed, key_if};
 
 use crate::Session;
+use characters::text;
 use field::entity;
+use field::place::Record;
 
 // An origin has so many identifiers.
 const IDENTIFIERS: usize = 36;
@@ -24,13 +27,16 @@ fn identifier(b: u8) -> usize
     (b - b'A') as usize + 10
 }
 
-// Of a file that has both.
-#[tactic(auto, unfolding(paper::specs::Sessions::key_of, paper::specs::Sessions::origin_of, paper::specs::Sessions::identifier_of))]
+// Of a file that no reading would accept, for its length or its identifier, it is 0; no Option, since the clause says so of any file.
 pub fn key(file: &[u8]) -> usize
-    requires file_len_bound { 94 ≤ length file.now }
-    requires identifier_good { T (digit (slice_index file.now 33) || capital (slice_index file.now 33)) }
-    ensures { (result ≡ key_of file.now) × (result < 18000) }
+    ensures { (result ≡ key_if (keyed file.now) file.now) × (result < 18000) }
 {
+    if file.len() < Record::LENGTH {
+        return 0;
+    }
+    if !text::identifier(file, 34) {
+        return 0;
+    }
     let origin = entity::entity(file, 15, 22) as usize;
     origin * IDENTIFIERS + identifier(file[33])
 }

@@ -1,9 +1,9 @@
 use Rattle.std.proofs.Common.{ap, arith, set, sym, true, Ok, ◌∙◌}
 use Rattle.paper.proofs.Accepted.{accepted_facts}
 use Rattle.paper.proofs.Chained.{stopped_said}
-use Rattle.paper.proofs.Identifiers.{identifier_good}
 use Rattle.desk.specs.Standing.{rules_of, standing}
 use Rattle.desk.proofs.Calls.{room}
+use Rattle.desk.proofs.Keys.{key_accepted}
 use Rattle.desk.proofs.Replies.{reply, by_reading, by_identifier, posts, presented_so}
 use Rattle.desk.proofs.Session.present.Goals as goal
 
@@ -13,20 +13,12 @@ returns-in_err-read c =
     presented_so s _ c.requires (record { answer = c.from_residual.result; session = s })
     (ap (λ a. reply a (standing s)) (stopped_said _ _ c.from_residual.ensures) ∙ by_reading (standing s) _ _ c.in_err-read.ensures)
 
-pub key-key-requires : goal.key-key-requires
-key-key-requires c =
-    let reads = sym c.in_ok-read.ensures in
-    record {
-      file_len_bound = omega (arith, (accepted_facts (rules_of c.args.self.now) _ reads).long);
-      identifier_good = identifier_good (rules_of c.args.self.now) _ reads;
-    }
-
 pub returns-in_err-unless_used : goal.returns-in_err-unless_used
 returns-in_err-unless_used c =
     let s = c.args.self.now in
     presented_so s _ c.requires (record { answer = c.from_residual-in_err-unless_used.result; session = s })
     (ap (λ a. reply a (standing s)) (stopped_said _ _ c.from_residual-in_err-unless_used.ensures)
-    ∙ by_identifier (standing s) _ c.in_ok-read.ensures c.key-key.ensures.0 _ c.in_err-unless_used.ensures)
+    ∙ by_identifier (standing s) _ c.in_ok-read.ensures (c.key-key.ensures.0 ∙ key_accepted (rules_of s) _ (sym c.in_ok-read.ensures)) _ c.in_err-unless_used.ensures)
 
 pub post-requires : goal.post-requires
 post-requires c =
@@ -37,4 +29,4 @@ returns c =
     let s = c.args.self.now in
     presented_so s _ c.requires
     (record { answer = Ok tt; session = record { rules = s.rules; cells = c.post.new.cells; used = set s.used c.key-key.result true } })
-    (posts (standing s) _ c.in_ok-read.ensures c.key-key.ensures.0 c.in_ok-unless_used.ensures c.post.ensures)
+    (posts (standing s) _ c.in_ok-read.ensures (c.key-key.ensures.0 ∙ key_accepted (rules_of s) _ (sym c.in_ok-read.ensures)) c.in_ok-unless_used.ensures c.post.ensures)
