@@ -1,5 +1,5 @@
 -- Loops that go up a list with no way out: what has been tested, and what is left to test. A loop that leaves early has tested well so far.
-use Rattle.std.proofs.Common.{◌≡◌, ℕ, Option, ◌+◌, ◌<◌, ◌≤◌, Bool, true, ◌&&◌, eqb, nat_eq, List, [], ◌∷◌, length, get_or, drop, sym, refl, ap, ◌∙◌, add-one, arith, drop_of_length-le, drop-cons}
+use Rattle.std.proofs.Common.{◌≡◌, ℕ, Option, ◌+◌, ◌<◌, ◌≤◌, Bool, true, ◌&&◌, eqb, nat_eq, List, [], ◌∷◌, length, get_or, drop, sym, refl, ap, ◌∙◌, add-one, arith, drop_of_length-le, drop-cons, take, take_all, suc, false}
 use Rattle.std.specs.List.{fold, FoldsTo}
 use Rattle.std.specs.Cmp.Lexicographic.{pointwise}
 use Rattle.std.specs.Fn.{Called}
@@ -51,3 +51,18 @@ compared [] [] = refl
 compared [] (y ∷ ys) = refl
 compared (x ∷ xs) [] = refl
 compared (x ∷ xs) (y ∷ ys) = ap (λ (t : Bool). eqb x y && t) (compared xs ys)
+
+-- of one length, one begins with the other where they are the same
+pub begun_same : (a b : List ℕ) → length a ≡ length b → pointwise nat_eq a (take (length a) b) ≡ same a b
+begun_same a b l = rw (take_all (length a) b (omega arith)) (compared a b)
+
+and_no : (x y : Bool) → false ≡ y → false ≡ (x && y)
+and_no true y e = e
+and_no false y e = refl
+
+pub other_length : (a b : List ℕ) → (length a ≡ length b → ⊥) → false ≡ same a b
+unfolding same
+other_length [] [] h = absurd (h refl)
+other_length [] (y ∷ ys) h = refl
+other_length (x ∷ xs) [] h = refl
+other_length (x ∷ xs) (y ∷ ys) h = and_no (eqb x y) (same xs ys) (other_length xs ys (λ e. h (ap suc e)))

@@ -52,8 +52,8 @@ pub(crate) fn hand_over(
 }
 
 fn read(rt: &impl World, session: &Session) -> Result<(), Stopped> {
-    let mut input: [u8; Size::INPUT] = held::zeros();
-    let file = world::file(rt, Word::FIRST, &mut input)?;
+    let mut input = held::input();
+    let (_source, file) = world::file(rt, Word::FIRST, &mut input)?;
     say::answer(rt, session.read(file))
 }
 
@@ -61,8 +61,8 @@ fn present_named(rt: &impl World, session: &mut Session, path: &[u8]) -> Result<
     requires { Reachable session.old }
     ensures { Reachable session.new }
 {
-    let mut input: [u8; Size::INPUT] = held::zeros();
-    let (_, n) = taking::file_named(rt, path, &mut input)?;
+    let mut input = held::input();
+    let (_source, n) = taking::file_named(rt, path, &mut input)?;
     let answer = session.present(&input[..n]);
     say::named(rt, answer, path)
 }
@@ -100,17 +100,17 @@ pub(crate) fn entity(rt: &impl World) -> u64
 }
 
 fn extract(rt: &impl World, session: &Session) -> Result<(), Stopped> {
-    let mut input: [u8; Size::INPUT] = held::zeros();
-    let file = world::file(rt, Word::SECOND, &mut input)?;
-    let mut out: [u8; Size::OUTPUT] = held::zeros();
+    let mut input = held::input();
+    let (_source, file) = world::file(rt, Word::SECOND, &mut input)?;
+    let mut out = held::output();
     let output = session.extract(entity(rt), file, &mut out);
     hand_over(rt, Word::THIRD, output, &out)
 }
 
 fn strip(rt: &impl World, session: &Session) -> Result<(), Stopped> {
-    let mut input: [u8; Size::INPUT] = held::zeros();
-    let file = world::file(rt, Word::FIRST, &mut input)?;
-    let mut out: [u8; Size::OUTPUT] = held::zeros();
+    let mut input = held::input();
+    let (_source, file) = world::file(rt, Word::FIRST, &mut input)?;
+    let mut out = held::output();
     let output = session.strip(file, &mut out);
     hand_over(rt, Word::SECOND, output, &out)
 }
@@ -132,12 +132,12 @@ pub(crate) fn whole<'a>(
 fn build(rt: &impl World, session: &Session) -> Result<(), Stopped> {
     // one byte more than a header body shows that there was more
     let mut header = [0u8; Session::RECORD + 1];
-    let header = world::file(rt, Word::FIRST, &mut header)?;
+    let (_source, header) = world::file(rt, Word::FIRST, &mut header)?;
     let mut path = io::buffer();
     let path = taking::name(rt, Word::SECOND, &mut path)?;
-    let mut input: [u8; Size::LONG] = held::zeros();
+    let mut input = held::long();
     let tray = whole(rt, Form::Tray, path, header, &mut input)?;
-    let mut out: [u8; Size::OUTPUT] = held::zeros();
+    let mut out = held::output();
     let output = session.build(header, tray, &mut out);
     hand_over(rt, Word::THIRD, output, &out)
 }

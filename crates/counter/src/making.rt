@@ -5,7 +5,6 @@ use desk::Session;
 use files::ending::Stopped;
 use files::taking;
 use intake::held;
-use intake::held::Size;
 use looking::Form;
 use paper::rules::Currency;
 use typed::call::Word;
@@ -14,12 +13,12 @@ use typed::call::Word;
 pub(crate) fn make(rt: &impl World, currency: Currency) -> Result<(), Stopped> {
     // one byte more than an LO body shows that there was more
     let mut lo = [0u8; Session::RECORD + 1];
-    let lo = world::file(rt, Word::LO, &mut lo)?;
+    let (_source, lo) = world::file(rt, Word::LO, &mut lo)?;
     let mut path = io::buffer();
     let path = taking::name(rt, Word::COMPANY, &mut path)?;
-    let mut input: [u8; Size::LONG] = held::zeros();
+    let mut input = held::long();
     let file = jobs::whole(rt, Form::Company(currency), path, lo, &mut input)?;
-    let mut out: [u8; Size::OUTPUT] = held::zeros();
+    let mut out = held::output();
     let output = company::tray(currency, lo, file, &mut out);
     jobs::hand_over(rt, Word::OUT, output, &out)
 }

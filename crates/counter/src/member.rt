@@ -7,14 +7,13 @@ use desk::Session;
 use files::args;
 use files::ending::Stopped;
 use intake::held;
-use intake::held::Size;
 use reasons::Shown;
 use typed::call::Word;
 use typed::words;
 
 pub(crate) fn receive(rt: &impl World, session: &Session) -> Result<(), Stopped> {
-    let mut input: [u8; Size::INPUT] = held::zeros();
-    let file = world::file(rt, Word::SECOND, &mut input)?;
+    let mut input = held::input();
+    let (_source, file) = world::file(rt, Word::SECOND, &mut input)?;
     say::answer(rt, session.receive(jobs::entity(rt), file))
 }
 
@@ -60,11 +59,11 @@ fn show_every(
 
 // Of a file, by the motive list lent with it: the reason of the record at that place, or every one.
 fn show(rt: &impl World, session: &Session, wanted: Option<usize>) -> Result<(), Stopped> {
-    let mut input: [u8; Size::INPUT] = held::zeros();
-    let file = world::file(rt, Word::SECOND, &mut input)?;
+    let mut input = held::input();
+    let (_source, file) = world::file(rt, Word::SECOND, &mut input)?;
     // one byte more than a motive list shows that there was more
     let mut motives = [0u8; Shown::MOTIVES + 1];
-    let motives = world::file(rt, Word::THIRD, &mut motives)?;
+    let (_list, motives) = world::file(rt, Word::THIRD, &mut motives)?;
     match wanted {
         Some(place) => show_one(rt, session, file, motives, place),
         None => show_every(rt, session, file, motives),

@@ -7,7 +7,6 @@ use desk::Session;
 use files::ending::Stopped;
 use files::{saying, taking};
 use intake::held;
-use intake::held::Size;
 use typed::call::Word;
 
 // What a file's name takes behind that of its folder, at most.
@@ -76,10 +75,10 @@ fn share_each(
 fn share_to(rt: &impl World, session: &Session, folder: &[u8]) -> Result<(), Stopped>
     requires { length folder.now + 32 ≤ 4096 }
 {
-    let mut input: [u8; Size::INPUT] = held::zeros();
-    let file = world::file(rt, Word::FIRST, &mut input)?;
+    let mut input = held::input();
+    let (_source, file) = world::file(rt, Word::FIRST, &mut input)?;
     say::answer(rt, session.read(file))?;
-    let mut out: [u8; Size::OUTPUT] = held::zeros();
+    let mut out = held::output();
     share_each(rt, session, file, folder, &mut out)
 }
 

@@ -1,6 +1,7 @@
 // What a job asks of the system: the words of the call, files by name, and where lines are printed.
 use files::ending::Stopped;
 use files::taking;
+use files::taking::Source;
 use std::env::FillError;
 use std::fs::File;
 use std::rt::{Env, Files};
@@ -17,12 +18,12 @@ pub(crate) fn words(rt: &impl World) -> usize {
         .unwrap_or(usize::MAX)
 }
 
-// The file that a word names, as much of it as the buffer takes.
+// The file that a word names, as much of it as the buffer takes. The source is open as long as it is kept: a pipe that two words name goes on between them.
 pub(crate) fn file<'a>(
     rt: &impl World,
     word: usize,
     buf: &'a mut [u8],
-) -> Result<&'a [u8], Stopped> {
-    let (_, n) = taking::file(rt, word, buf)?;
-    Ok(&buf[..n])
+) -> Result<(Source, &'a [u8]), Stopped> {
+    let (source, n) = taking::file(rt, word, buf)?;
+    Ok((source, &buf[..n]))
 }

@@ -2,8 +2,8 @@
 use Prim.Native.Nat.{ℕ}
 use mathlib.Core.Bool.{Bool}
 use mathlib.Core.List.{List}
-use mathlib.Core.Path.{◌≡◌, refl, sym, ap}
-use Rattle.std.specs.Prelude.{Ok, Err}
+use mathlib.Core.Path.{◌≡◌, refl, sym, ap, ◌∙◌}
+use Rattle.std.specs.Prelude.{Result, Ok, Err}
 use Rattle.paper.specs.declared.answer.Refusal.{Refusal}
 use Rattle.paper.specs.declared.rules.Currency.{Currency}
 use Rattle.paper.specs.declared.rules.Rules.{Rules}
@@ -22,18 +22,19 @@ unfolding delivered_of
 delivered_told (Ok n) buffer = refl
 delivered_told (Err r) buffer = refl
 
-module _ {Lent : Type 0} (date : ℕ) (dollars : Bool) (entities : List ℕ) (lent : Lent) (job : Session → Delivered Lent) where
-  pub refused_there : {spoken : Spoken} → Err spoken ≡ session_for date dollars entities → in_session date dollars entities lent job ≡ record { spoken = spoken; lent = lent }
+module _ {Lent : Type 0} (date : ℕ) (dollars : Bool) (entities : List ℕ) (lent : Lent) (job : Session → Delivered Lent) {now : Result Session Spoken}
+    (opens : now ≡ session_for date dollars entities) where
+  pub refused_there : {spoken : Spoken} → Err spoken ≡ now → in_session date dollars entities lent job ≡ record { spoken = spoken; lent = lent }
   unfolding in_session session_if after_opening
-  refused_there {spoken} e = go (opening date (currency_if dollars) entities).answer (opening date (currency_if dollars) entities).session e
+  refused_there {spoken} e = go (opening date (currency_if dollars) entities).answer (opening date (currency_if dollars) entities).session (e ∙ opens)
     where
       go : (a : Said) (s : Session) → Err spoken ≡ session_if a s → after_opening a lent (job s) ≡ record { spoken = spoken; lent = lent }
       go accepted s h = cc
       go (refused n place) s h = cc
 
-  pub done_there : {session : Session} → Ok session ≡ session_for date dollars entities → in_session date dollars entities lent job ≡ job session
+  pub done_there : {session : Session} → Ok session ≡ now → in_session date dollars entities lent job ≡ job session
   unfolding in_session session_if after_opening
-  done_there {session} e = go (opening date (currency_if dollars) entities).answer (opening date (currency_if dollars) entities).session e
+  done_there {session} e = go (opening date (currency_if dollars) entities).answer (opening date (currency_if dollars) entities).session (e ∙ opens)
     where
       go : (a : Said) (s : Session) → Ok session ≡ session_if a s → after_opening a lent (job s) ≡ job session
       go accepted s h = cc

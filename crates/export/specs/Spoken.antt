@@ -1,13 +1,12 @@
 -- What is handed over the boundary.
 use Rattle.std.specs.Prelude.{ℕ, ◌+◌, ◌*◌, ◌/◌, ◌<◌, Bool, cond, List, ◌≡◌, ltb, length, set, Result, Ok, Err}
-use Rattle.paper.specs.Answers.{Output, Said, accepted, refused, refused_by}
+use Rattle.paper.specs.Answers.{Output, Said, accepted, refused, refused_by, said}
 use Rattle.paper.specs.Buffers.{Outcome}
 use Rattle.paper.specs.Listing.{currency_if}
 use Rattle.paper.specs.Reading.{reading}
 use Rattle.paper.specs.Sessions.{Session, opening}
-use Rattle.desk.specs.declared.Session as desk
+use Rattle.desk.specs.declared.Reply.{Reply}
 use Rattle.desk.specs.Standing.{standing}
-use Rattle.desk.specs.Calls.{Reachable}
 use Rattle.export.specs.declared.Spoken.{Spoken}
 
 -- an answer on a file of so many records, as two numbers: 0 and the records, or the refusal number, which is never 0, and the place
@@ -64,10 +63,13 @@ session_if (refused n place) session = Err (not_opened n)
 abbrev pub session_for : ℕ → Bool → List ℕ → Result Session Spoken
 session_for date dollars entities = let opened = opening date (currency_if dollars) entities in session_if opened.answer opened.session
 
+-- the same of what the desk hands back
+abbrev pub session_of : Reply → Result Session Spoken
+session_of r = session_if (said r.answer) (standing r.session)
+
 -- what a job is handed of it
-abbrev pub OpenedFor : ℕ → Bool → List ℕ → Result desk.Session Spoken → Type 0
-OpenedFor date dollars entities (Ok session) = (Ok (standing session) ≡ session_for date dollars entities) × Reachable session
-OpenedFor date dollars entities (Err spoken) = Err spoken ≡ session_for date dollars entities
+abbrev pub OpenedFor : ℕ → Bool → List ℕ → Reply → Type 0
+OpenedFor date dollars entities r = session_of r ≡ session_for date dollars entities
 
 -- a file read there; nothing is lent to be written
 unfoldable pub read_of : ℕ → Bool → List ℕ → List ℕ → Delivered (Unit {0})

@@ -6,7 +6,7 @@ ghost use Rattle.export.specs.Day.{between, turns_of, day_of, day_listed};
 
 use crate::figures::hand_figures;
 use crate::pairs::hand_pair;
-use crate::{Spoken, opened, speak, speak_of};
+use crate::{Spoken, open, opened, speak, speak_of};
 use desk::Session;
 use listing::Listing;
 
@@ -55,12 +55,12 @@ pub fn shaydhoqel_day(
         record { answers = answers.old; figures = figures.old }
         ≡ record { spoken = result; lent = record { answers = answers.new; figures = figures.new } } }
 {
-    let mut session = match opened(date, dollars, entities) {
-        Ok(session) => session,
-        Err(spoken) => return spoken,
-    };
-    present_all(&mut session, ends, files, answers);
-    hand_figures(&session.cells(), figures);
+    let mut reply = open(date, dollars, entities);
+    if let Err(spoken) = opened(&reply) {
+        return spoken;
+    }
+    present_all(&mut reply.session, ends, files, answers);
+    hand_figures(&reply.session.cells(), figures);
     speak(Ok(NO_RECORDS))
 }
 
@@ -77,11 +77,11 @@ pub fn shaydhoqel_day_listing(
     ensures { day_listed date dollars entities.now ends.now files.now out.old
         ≡ record { spoken = result; lent = out.new } }
 {
-    let mut session = match opened(date, dollars, entities) {
-        Ok(session) => session,
-        Err(spoken) => return spoken,
-    };
+    let mut reply = open(date, dollars, entities);
+    if let Err(spoken) = opened(&reply) {
+        return spoken;
+    }
     let mut unasked: [u64; 0] = [];
-    present_all(&mut session, ends, files, &mut unasked);
-    speak(Ok(listing::print(&session, out)))
+    present_all(&mut reply.session, ends, files, &mut unasked);
+    speak(Ok(listing::print(&reply.session, out)))
 }

@@ -3,7 +3,7 @@ ghost use Rattle.std.specs.Prelude.{◌≡◌};
 ghost use Rattle.paper.specs.Buffers.{extracting};
 ghost use Rattle.export.specs.Spoken.{delivered_of, in_session};
 
-use crate::{Spoken, opened, speak};
+use crate::{Spoken, open, opened, speak};
 
 // An extract in a session opened with this date, currency and list of entities.
 #[tactic(auto, using(crate::proofs::Jobs::jobs))]
@@ -19,7 +19,8 @@ pub fn shaydhoqel_extract(
         (λ session. delivered_of (extracting session.rules entity file.now out.old))
         ≡ record { spoken = result; lent = out.new } }
 {
-    match opened(date, dollars, entities) {
+    let reply = open(date, dollars, entities);
+    match opened(&reply) {
         Ok(session) => speak(session.extract(entity, file, out)),
         Err(spoken) => spoken,
     }

@@ -1,13 +1,15 @@
 // The library for programs in Rust, and, by `export_c`, in C: functions on numbers and byte slices.
 #![tactic(auto)]
 
-ghost use Rattle.std.specs.Prelude.{◌≡◌};
+ghost use Rattle.std.specs.Prelude.{◌≡◌, Ok, Err, IfOk, IfErr};
 ghost use Rattle.paper.specs.Answers.{said, number_of};
 ghost use Rattle.paper.specs.Listing.{currency_if, positions_of};
 ghost use Rattle.listing.specs.Room.{Written};
-ghost use Rattle.export.specs.Spoken.{spoken_of, spoken_by, not_opened, OpenedFor, read_of};
+ghost use Rattle.export.specs.Spoken.{spoken_of, spoken_by, not_opened, session_of, OpenedFor, read_of};
+ghost use Rattle.desk.specs.Standing.{standing};
+ghost use Rattle.desk.specs.Calls.{Reachable};
 
-use desk::{Session, rules};
+use desk::{Reply, Session, rules};
 use listing::Listing;
 use paper::answer::{Fault, Refusal};
 use paper::rules::Currency;
@@ -94,15 +96,22 @@ fn not_opened(fault: Fault) -> Spoken
     }
 }
 
-// The session opened with this date, currency and list of entities, or what is said of a refused opening. Callers match on it and hand over no closure:
-// nothing is known of a lent buffer that a closure wrote to.
-#[tactic(auto, unfolding(crate::specs::Spoken::session_if))]
-fn opened(date: u64, dollars: bool, entities: &[u64]) -> Result<Session, Spoken>
-    ensures { OpenedFor date dollars entities.now result }
+// An opening with this date, currency and list of entities.
+fn open(date: u64, dollars: bool, entities: &[u64]) -> Reply
+    ensures { OpenedFor date dollars entities.now result × Reachable result.session }
 {
-    let reply = Session::open(date, currency(dollars), entities);
+    Session::open(date, currency(dollars), entities)
+}
+
+// The session opened, or what is said of a refused opening. It is lent: a session is long to copy. Callers match on it and hand over no closure: nothing is
+// known of a lent buffer that a closure wrote to.
+#[tactic(auto, unfolding(crate::specs::Spoken::session_if))]
+fn opened(reply: &Reply) -> Result<&Session, Spoken>
+    ensures session { IfOk result (λ session. (Ok (standing session.now) ≡ session_of reply.now) × (session.now ≡ reply.now.session)) }
+    ensures refusal { IfErr result (λ spoken. Err spoken ≡ session_of reply.now) }
+{
     match reply.answer {
-        Ok(()) => Ok(reply.session),
+        Ok(()) => Ok(&reply.session),
         Err(refusal) => Err(not_opened(refusal.fault)),
     }
 }

@@ -4,7 +4,7 @@ ghost use Rattle.reasons.specs.Shown.{showing_of};
 ghost use Rattle.export.specs.Member.{heard_text, without_text, shown_of, text_found, texts_from, receive_of, show_of, reasons_of};
 
 use crate::pairs::hand_pair;
-use crate::{Spoken, opened, speak, speak_of};
+use crate::{Spoken, open, opened, speak, speak_of};
 use desk::Session;
 use paper::answer::Refusal;
 use reasons::Shown;
@@ -83,7 +83,8 @@ pub fn shaydhoqel_receive(
 ) -> Spoken
     ensures { receive_of date dollars entities.now entity file.now ≡ record { spoken = result; lent = tt } }
 {
-    match opened(date, dollars, entities) {
+    let reply = open(date, dollars, entities);
+    match opened(&reply) {
         Ok(session) => speak_of(file.len() / Session::RECORD, session.receive(entity, file)),
         Err(spoken) => spoken,
     }
@@ -102,7 +103,8 @@ pub fn shaydhoqel_show(
 ) -> SpokenText
     ensures { show_of date dollars entities.now entity file.now motives.now «record» ≡ heard_text result }
 {
-    match opened(date, dollars, entities) {
+    let reply = open(date, dollars, entities);
+    match opened(&reply) {
         Ok(session) => speak_text(session.show(entity, file, motives, record as usize)),
         Err(spoken) => no_text(spoken),
     }
@@ -122,7 +124,8 @@ pub fn shaydhoqel_reasons(
     ensures { reasons_of date dollars entities.now entity file.now motives.now texts.old
         ≡ record { spoken = result; lent = texts.new } }
 {
-    let session = match opened(date, dollars, entities) {
+    let reply = open(date, dollars, entities);
+    let session = match opened(&reply) {
         Ok(session) => session,
         Err(spoken) => return spoken,
     };

@@ -3,7 +3,7 @@ ghost use Rattle.std.specs.Prelude.{◌≡◌};
 ghost use Rattle.paper.specs.Buffers.{building, stripping};
 ghost use Rattle.export.specs.Spoken.{delivered_of, in_session};
 
-use crate::{Spoken, opened, speak};
+use crate::{Spoken, open, opened, speak};
 
 // A file built in a session opened with this date, currency and list of entities.
 #[tactic(auto, using(crate::proofs::Jobs::jobs))]
@@ -19,7 +19,8 @@ pub fn shaydhoqel_build(
         (λ session. delivered_of (building session.rules header.now tray.now out.old))
         ≡ record { spoken = result; lent = out.new } }
 {
-    match opened(date, dollars, entities) {
+    let reply = open(date, dollars, entities);
+    match opened(&reply) {
         Ok(session) => speak(session.build(header, tray, out)),
         Err(spoken) => spoken,
     }
@@ -38,7 +39,8 @@ pub fn shaydhoqel_strip(
         (λ session. delivered_of (stripping session.rules file.now out.old))
         ≡ record { spoken = result; lent = out.new } }
 {
-    match opened(date, dollars, entities) {
+    let reply = open(date, dollars, entities);
+    match opened(&reply) {
         Ok(session) => speak(session.strip(file, out)),
         Err(spoken) => spoken,
     }

@@ -25,3 +25,24 @@ pub fn zeros<const N: usize>() -> [u8; N]
 {
     [0; N]
 }
+
+// A file, or an extract.
+pub fn input() -> [u8; Size::INPUT]
+    ensures { (960096 ≡ length result) × (result ≡ zero_bytes 960096) }
+{
+    zeros()
+}
+
+// A tray, or a company's file.
+pub fn long() -> [u8; Size::LONG]
+    ensures { (2508000 ≡ length result) × (result ≡ zero_bytes 2508000) }
+{
+    zeros()
+}
+
+// What a job writes.
+pub fn output() -> [u8; Size::OUTPUT]
+    ensures { (960000 ≡ length result) × (result ≡ zero_bytes 960000) }
+{
+    zeros()
+}

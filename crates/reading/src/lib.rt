@@ -187,8 +187,10 @@ fn onward(
     ensures { Runs (under terms.entry) file.now records place state result × Further place result }
 {
     let clean = in_front(front, place);
-    let next = verdict::at(frame(terms, file, clean, place, state), place)?;
-    entries(terms, file, front, records, place + 1, next)
+    match frame(terms, file, clean, place, state) {
+        Ok(next) => entries(terms, file, front, records, place + 1, next),
+        Err(fault) => Err(fault.at(place)),
+    }
 }
 
 // Records that end before a file control are wrong one past the last.

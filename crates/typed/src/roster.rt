@@ -164,7 +164,7 @@ impl Progress {
 
 impl Roster {
     // Bytes of a word that are told, at most.
-    const SHOWN: usize = 64;
+    pub const SHOWN: usize = 64;
     // Places are counted up to here.
     const MOST: u64 = 1 << 63;
 

@@ -13,10 +13,10 @@ hand_texts-requires c =
 pub returns-in-Err-ask : goal.returns-in-Err-ask
 unfolding reasons_of
 returns-in-Err-ask c =
-    done_there _ _ _ _ _ c.in-Ok.ensures.0 ∙ none_shown _ _ _ _ _ c.ask.ensures c.in-Err-ask.is c.speak.ensures
+    done_there _ _ _ _ _ c.open-reply.ensures.0 c.in-Ok.ensures.session.0 ∙ none_shown _ _ _ _ _ c.ask.ensures c.in-Err-ask.is c.speak.ensures
 
 pub returns : goal.returns
 unfolding reasons_of
 returns c =
-    done_there _ _ _ _ _ c.in-Ok.ensures.0
+    done_there _ _ _ _ _ c.open-reply.ensures.0 c.in-Ok.ensures.session.0
     ∙ all_shown _ _ _ _ _ c.ask.ensures c.in_default.is c.speak-2.ensures c.hand_texts.ensures
