@@ -89,6 +89,9 @@ module _ {tray before later : List ℕ} {first n : Numbering} {i : ℕ} {t : Tal
     unfolding rs r number
     here = rw c.numbering (numbered_at first (bodies tray) i (body_at tray i) (bodies_at tray i l) (kinds_of tray i (omega (arith, l)) asked.sound))
 
+    pub on_tray_lem : i * 96 + 96 ≤ length tray
+    on_tray_lem = omega (arith, l)
+
     pub room_for : i * 94 + 94 ≤ length later
     unfolding rs
     room_for = room_left sized c.copied here (own_same ∙ sym a ∙ h) asked.room

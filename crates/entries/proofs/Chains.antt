@@ -8,9 +8,9 @@ use Rattle.paper.specs.declared.rules.Currency.{Currency}
 use Rattle.paper.specs.declared.rules.Currency.TheVariants.{Pesos, Dollars}
 use Rattle.paper.specs.Checks.{Check, fine, wrong, need, ◌also◌}
 use Rattle.paper.specs.Entities.{of_currency, entity_field}
-use Rattle.paper.specs.Fields.{field, digits, is, same, number}
+use Rattle.paper.specs.Fields.{field, digits, blank, is, same, number}
 use Rattle.paper.specs.Kinds.{code_of, known}
-use Rattle.paper.specs.Records.{ReadingRules, amount_of, flagged_in, flag_good, counter_good, addressed, destination, transfer, individual}
+use Rattle.paper.specs.Records.{ReadingRules, amount_of, flagged_in, information_good, flag_good, counter_good, addressed, destination, transfer, individual}
 use Rattle.paper.proofs.Exactly.{wrong_not_fine}
 use Rattle.characters.proofs.Value.{some_number}
 use Rattle.entries.specs.Judging.{flag_rules, counter_rules, closing_rules}
@@ -95,3 +95,9 @@ module _ (header : List ℕ) (previous : ℕ) (r : List ℕ) where
       → need (s && ltb previous n) 27 ≡ counter_rules header previous r
   unfolding counter_rules counter_good need ◌also◌
   sequence_so d e m = rw (d, e, m)
+
+  -- positions 55 to 94 are good where each part is
+  pub closing_good_lem : blank (field r 55 76) ≡ false → information_good r ≡ true → flag_rules r ≡ fine → digits (field r 80 94) ≡ true
+      → same (field r 80 87) (field header 80 87) ≡ true → ltb previous (number (field r 88 94)) ≡ true → fine ≡ closing_rules header previous r
+  unfolding closing_rules counter_rules counter_good need ◌also◌
+  closing_good_lem b i m d s h = rw (b, i, m, d, s, h)
