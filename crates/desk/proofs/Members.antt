@@ -8,11 +8,11 @@ use Rattle.std.specs.Prelude.{IsErrAnd}
 use Rattle.std.proofs.lemmas.Result.{err_from_is_err_and}
 use Rattle.paper.specs.declared.answer.Refusal.{Refusal}
 use Rattle.paper.specs.declared.rules.Rules.{Rules}
-use Rattle.paper.specs.Answers.{accepted, refused, number_of, and_then, require}
+use Rattle.paper.specs.Answers.{Said, accepted, refused, number_of, and_then, require}
 use Rattle.paper.specs.Records.{at_desk}
 use Rattle.paper.specs.Reading.{reading_by}
 use Rattle.paper.specs.Buffers.{entity_given}
-use Rattle.paper.specs.Receiving.{motives_good, showable, explains_at, TextPlace, nowhere, text_at, Showing, shown_if, showing}
+use Rattle.paper.specs.Receiving.{motives_good, receiving, showable, explains_at, TextPlace, nowhere, text_at, Showing, shown_if, showing}
 use Rattle.reasons.specs.declared.Shown.{Shown}
 use Rattle.reasons.specs.Shown.{showing_of}
 use Rattle.paper.proofs.Refusals.{both_accept}
@@ -20,6 +20,15 @@ use Rattle.paper.proofs.Accepted.{facts_by}
 
 module _ (rules : Rules) (e : ℕ) (file : List ℕ) where
   module _ (motives : List ℕ) where
+    -- receiving asks for the entity again
+    pub asked : and_then (and_then (entity_given rules e) (require (motives_good motives) 207 0)) (receiving rules e file) ≡ showable rules e file motives
+    unfolding showable receiving and_then
+    asked = once (entity_given rules e) (require (motives_good motives) 207 0) (reading_by (at_desk e rules) file)
+      where
+        once : (a b c : Said) → and_then (and_then a b) (and_then a c) ≡ and_then a (and_then b c)
+        once accepted b c = refl
+        once (refused n place) b c = refl
+
     -- what may be shown was read, and is a file
     pub short : showable rules e file motives ≡ accepted → length file ≤ 940000
     unfolding showable
